@@ -1,0 +1,9 @@
+pub mod Ints
+pub mod RingFacts
+pub mod Sums
+pub mod Conj
+pub mod Extend
+pub mod Scalars
+pub mod Wrapping
+pub mod Residues
+pub mod Powers

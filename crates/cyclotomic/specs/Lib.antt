@@ -1,0 +1,10 @@
+pub mod Refusals
+pub mod Ring
+pub mod CommFacts
+pub mod Adjoin
+pub mod AdjoinLaws
+pub mod Modular
+pub mod ModularLaws
+pub mod Columns
+pub mod Scalars
+pub mod Sum

@@ -1,0 +1,17 @@
+pub mod Bitlaws
+pub mod Algebra
+pub mod Dots
+pub mod Linear
+pub mod Lowest
+pub mod Rows
+pub mod Values
+pub mod Unique
+pub mod Clear
+pub mod Substitute
+pub mod Fix
+pub mod Laws
+pub mod Restrict
+pub mod Insert
+pub mod Phases
+pub mod Extend
+pub mod Distinct

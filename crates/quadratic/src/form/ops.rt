@@ -1,0 +1,218 @@
+ghost use mathlib.Core.Path.{_≡_};
+ghost use Prim.Native.Nat.{ℕ, _+_, _*_, _%_, _^_, _<_, _≤_};
+ghost use lib.Bits.{bitXor};
+ghost use lib.Dec.{T};
+ghost use lib.ListN.{getD};
+ghost use Rattle.quadratic.specs.Bits.{bit as digit, dot as parity};
+ghost use Rattle.quadratic.specs.Value.{valueAt};
+use super::QuadraticForm;
+use crate::bits::bit;
+use crate::bits::dot;
+use crate::bits::shared_below;
+use crate::bits::xor_rows;
+
+impl QuadraticForm {
+    // The form's value at the point c.
+    pub fn value(&self, c: u64) -> u8
+        ensures { λ r. ⌜ r ≡ valueAt (now (self .entry)) c ⌝ ∗ ⌜ r < 8 ⌝ }
+    {
+        let mut sum = self.phase as u64;
+        for a in 0..48 {
+            if bit(c, a) == 1 {
+                let own = 2 * bit(self.odd, a) + 4 * bit(self.neg, a);
+                sum = (sum + own + 4 * shared_below(self.coupling[a], c, a) as u64) % 8;
+            }
+        }
+        sum as u8
+    }
+
+    // Adds 4 times the parity of the mask.
+    pub fn add_four(&mut self, mask: u64)
+        requires { ⌜ mask < 2 ^ 48 ⌝ }
+        ensures { λ _. ⌜ ((c : ℕ) → valueAt (now (self .exit)) c ≡ (valueAt (now (self .entry)) c + 4 * parity mask c) % 8) ⌝ }
+    {
+        self.neg ^= mask;
+    }
+
+    // Adds 2 times the parity of the mask.
+    pub fn add_two(&mut self, mask: u64)
+        requires { ⌜ mask < 2 ^ 48 ⌝ }
+        ensures { λ _. ⌜ ((c : ℕ) → valueAt (now (self .exit)) c ≡ (valueAt (now (self .entry)) c + 2 * parity mask c) % 8) ⌝ }
+    {
+        self.neg ^= mask & self.odd;
+        self.odd ^= mask;
+        xor_rows(&mut self.coupling, mask, mask);
+    }
+
+    // Adds `times`, one of 0, 2, 4 and 6, times the parity of the mask.
+    pub fn add_parity(&mut self, times: u8, mask: u64)
+        requires { ⌜ mask < 2 ^ 48 ⌝ }
+        requires { ⌜ times ≤ 6 ⌝ ∗ ⌜ times % 2 ≡ 0 ⌝ }
+        ensures { λ _. ⌜ ((c : ℕ) → valueAt (now (self .exit)) c ≡ (valueAt (now (self .entry)) c + times * parity mask c) % 8) ⌝ }
+    {
+        if times == 2 {
+            self.add_two(mask);
+        } else if times == 4 {
+            self.add_four(mask);
+        } else if times == 6 {
+            self.add_two(mask);
+            self.add_four(mask);
+        }
+    }
+
+    // Adds 4 times the product of the parities of u and v.
+    pub fn add_product(&mut self, u: u64, v: u64)
+        requires { ⌜ u < 2 ^ 48 ⌝ ∗ ⌜ v < 2 ^ 48 ⌝ }
+        ensures { λ _. ⌜ ((c : ℕ) → valueAt (now (self .exit)) c ≡ (valueAt (now (self .entry)) c + 4 * (parity u c * parity v c)) % 8) ⌝ }
+    {
+        self.neg ^= u & v;
+        xor_rows(&mut self.coupling, u, v);
+        xor_rows(&mut self.coupling, v, u);
+    }
+
+    // The rows that meet u an odd number of times.
+    fn rows_times(&self, u: u64) -> u64
+        ensures below { λ r. ⌜ r < 2 ^ 48 ⌝ }
+        ensures bits { λ r. ⌜ ((a : ℕ) → a < 48 → digit r a ≡ parity (getD (now (self .entry) .coupling) a 0) u) ⌝ }
+    {
+        let mut w = 0;
+        for a in 0..48 {
+            if dot(self.coupling[a], u) == 1 {
+                w += 1 << a;
+            }
+        }
+        w
+    }
+
+    // The form at c becomes what it was at c ^ u.
+    pub fn translate(&mut self, u: u64)
+        ensures { λ _. ⌜ ((c : ℕ) → valueAt (now (self .exit)) c ≡ valueAt (now (self .entry)) (bitXor c u)) ⌝ }
+    {
+        let w = self.rows_times(u);
+        let phase = self.value(u);
+        self.phase = phase;
+        self.neg ^= w;
+    }
+
+    // The form that is 0 everywhere.
+    pub fn new() -> QuadraticForm
+        ensures { λ r. ⌜ ((c : ℕ) → valueAt r c ≡ 0) ⌝ }
+    {
+        QuadraticForm {
+            phase: 0,
+            odd: 0,
+            neg: 0,
+            coupling: [0; 48],
+        }
+    }
+
+    // The bilinear form of this one: how far the value at c ^ e is from the sum of the values.
+    pub fn bilinear(&self, c: u64, e: u64) -> u64
+        ensures small { λ r. ⌜ r < 2 ⌝ }
+        ensures polar { λ r. ⌜ (valueAt (now (self .entry)) (bitXor c e) + valueAt (now (self .entry)) 0) % 8 ≡ (valueAt (now (self .entry)) c + valueAt (now (self .entry)) e + 4 * r) % 8 ⌝ }
+    {
+        dot(self.rows_times(e), c)
+    }
+
+    // Whether two forms have the same values.
+    pub fn same(&self, other: &QuadraticForm) -> bool
+        ensures sound { λ r. ⌜ (T r → ((c : ℕ) → valueAt (now (self .entry)) c ≡ valueAt (now (other .entry)) c)) ⌝ }
+        ensures complete { λ r. ⌜ (((c : ℕ) → c < 2 ^ 48 → valueAt (now (self .entry)) c ≡ valueAt (now (other .entry)) c) → T r) ⌝ }
+    {
+        if self.phase != other.phase {
+            return false;
+        }
+        if self.odd != other.odd {
+            return false;
+        }
+        if self.neg != other.neg {
+            return false;
+        }
+        for a in 0..48 {
+            if self.coupling[a] != other.coupling[a] {
+                return false;
+            }
+        }
+        true
+    }
+
+    // What the value gains where variable a of the point c is turned over.
+    pub fn slope(&self, a: usize, c: u64) -> u8
+        requires { ⌜ a < 48 ⌝ }
+        ensures { λ r. ⌜ valueAt (now (self .entry)) (bitXor c (2 ^ a)) ≡ (valueAt (now (self .entry)) c + r) % 8 ⌝ }
+    {
+        let own = 2 * bit(self.odd, a) + 4 * bit(self.neg, a);
+        (own + 4 * dot(self.coupling[a], c)) as u8
+    }
+
+    // Makes the form independent of variable a, by setting that variable to 0.
+    pub fn clear(&mut self, a: usize)
+        requires { ⌜ a < 48 ⌝ }
+        ensures off { λ _. ⌜ ((c : ℕ) → digit c a ≡ 0 → valueAt (now (self .exit)) c ≡ valueAt (now (self .entry)) c) ⌝ }
+        ensures free { λ _. ⌜ ((c : ℕ) → valueAt (now (self .exit)) (bitXor c (2 ^ a)) ≡ valueAt (now (self .exit)) c) ⌝ }
+    {
+        let here = 1 << a;
+        let row = self.coupling[a];
+        self.odd ^= self.odd & here;
+        self.neg ^= self.neg & here;
+        xor_rows(&mut self.coupling, row, here);
+        self.coupling[a] = 0;
+    }
+
+    // Puts the parity of the mask in the place of variable a.
+    pub fn substitute(&mut self, a: usize, mask: u64)
+        requires { ⌜ a < 48 ⌝ ∗ ⌜ mask < 2 ^ 48 ⌝ ∗ ⌜ digit mask a ≡ 0 ⌝ }
+        ensures values { λ _. ⌜ ((c : ℕ) → digit c a ≡ parity mask c → valueAt (now (self .exit)) c ≡ valueAt (now (self .entry)) c) ⌝ }
+        ensures free { λ _. ⌜ ((c : ℕ) → valueAt (now (self .exit)) (bitXor c (2 ^ a)) ≡ valueAt (now (self .exit)) c) ⌝ }
+    {
+        let times = 2 * bit(self.odd, a) + 4 * bit(self.neg, a);
+        let row = self.coupling[a];
+        let rest = row ^ (row & (1 << a));
+        self.clear(a);
+        self.add_parity(times as u8, mask);
+        self.add_product(mask, rest);
+    }
+
+    // Puts beta and the parity of the mask in the place of variable a.
+    pub fn fix(&mut self, a: usize, mask: u64, beta: u64)
+        requires place { ⌜ a < 48 ⌝ }
+        requires low { ⌜ mask < 2 ^ 48 ⌝ }
+        requires free { ⌜ digit mask a ≡ 0 ⌝ }
+        requires small { ⌜ beta < 2 ⌝ }
+        ensures { λ _. ⌜ ((c : ℕ) → valueAt (now (self .exit)) c ≡ valueAt (now (self .entry)) (bitXor c (bitXor (digit c a) (bitXor (parity mask c) beta) * 2 ^ a))) ⌝ }
+    {
+        self.translate(beta << a);
+        self.substitute(a, mask);
+    }
+
+    // Adds a constant.
+    pub fn add_phase(&mut self, k: u8)
+        requires { ⌜ k < 8 ⌝ }
+        ensures { λ _. ⌜ ((c : ℕ) → valueAt (now (self .exit)) c ≡ (valueAt (now (self .entry)) c + k) % 8) ⌝ }
+    {
+        self.phase = (self.phase + k) % 8;
+    }
+
+    // Adds `times`, one of 0, 2, 4 and 6, where the parity of the mask is not `base`.
+    pub fn add_affine(&mut self, times: u8, base: u64, mask: u64)
+        requires low { ⌜ mask < 2 ^ 48 ⌝ }
+        requires even { ⌜ times ≤ 6 ⌝ ∗ ⌜ times % 2 ≡ 0 ⌝ }
+        requires small { ⌜ base < 2 ⌝ }
+        ensures { λ _. ⌜ ((c : ℕ) → valueAt (now (self .exit)) c ≡ (valueAt (now (self .entry)) c + times * bitXor base (parity mask c)) % 8) ⌝ }
+    {
+        if base == 0 {
+            self.add_parity(times, mask);
+        } else {
+            self.add_phase(times);
+            self.add_parity((8 - times) % 8, mask);
+        }
+    }
+
+    // The mask of the bilinear form at u: what the value gains where u is added.
+    pub fn polar(&self, u: u64) -> u64
+        ensures low { λ r. ⌜ r < 2 ^ 48 ⌝ }
+        ensures gain { λ r. ⌜ ((c : ℕ) → (valueAt (now (self .entry)) (bitXor c u) + valueAt (now (self .entry)) 0) % 8 ≡ (valueAt (now (self .entry)) c + valueAt (now (self .entry)) u + 4 * parity r c) % 8) ⌝ }
+    {
+        self.rows_times(u)
+    }
+}

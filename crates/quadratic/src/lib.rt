@@ -1,0 +1,4 @@
+pub mod bits;
+pub mod form;
+pub mod affine;
+pub mod phased;
