@@ -113,6 +113,28 @@ module _ (Q : ℕ) (D D′ : ℕ → ℕ) (J J′ : ℕ → ℕ → ℕ) (c : �
       omega (arith, one, two))
       (λ k i. ap (λ x. x % 8) (product-step (inner u c k) (inner v c k) (u k) (v k) (c k) (bits k)))
 
+-- ---- the sum of two forms
+
+sum-step₂ : (q q₁ q₂ D D₁ D₂ S S₁ S₂ c : ℕ) → c < 2 → (q₁ + q₂) % 8 ≡ q % 8 → (D₁ + D₂) % 8 ≡ D % 8 → (S₁ + S₂) % 2 ≡ S % 2
+    → (q₁ + c * (D₁ + 4 * S₁) + (q₂ + c * (D₂ + 4 * S₂))) % 8 ≡ (q + c * (D + 4 * S)) % 8
+sum-step₂ q q₁ q₂ D D₁ D₂ S S₁ S₂ c l h hD hS =
+    digit (λ c. (q₁ + c * (D₁ + 4 * S₁) + (q₂ + c * (D₂ + 4 * S₂))) % 8 ≡ (q + c * (D + 4 * S)) % 8) (omega arith)
+    (ap (λ n. n % 8) regroup ∙ add8 (q₁ + q₂) q (D₁ + D₂ + 4 * (S₁ + S₂)) (D + 4 * S) h (add8 (D₁ + D₂) D (4 * (S₁ + S₂)) (4 * S) hD (four (S₁ + S₂) S hS))
+    ∙ ap (λ n. (q + n) % 8) (sym (one-mul (D + 4 * S)))) c l
+  where
+    regroup : q₁ + 1 * (D₁ + 4 * S₁) + (q₂ + 1 * (D₂ + 4 * S₂)) ≡ q₁ + q₂ + (D₁ + D₂ + 4 * (S₁ + S₂))
+    regroup = omega arith
+
+-- coefficients that add up give values that add up
+pub quad-sum : (Q Q₁ Q₂ : ℕ) (D D₁ D₂ : ℕ → ℕ) (J J₁ J₂ : ℕ → ℕ → ℕ) (c : ℕ → ℕ) → ((k : ℕ) → c k < 2) → (Q₁ + Q₂) % 8 ≡ Q % 8
+    → ((k : ℕ) → (D₁ k + D₂ k) % 8 ≡ D k % 8) → ((k b : ℕ) → (J₁ k b + J₂ k b) % 2 ≡ J k b % 2)
+    → (n : ℕ) → (quad Q₁ D₁ J₁ c n + quad Q₂ D₂ J₂ c n) % 8 ≡ quad Q D J c n % 8
+quad-sum Q Q₁ Q₂ D D₁ D₂ J J₁ J₂ c bits hQ hD hJ zero = hQ
+quad-sum Q Q₁ Q₂ D D₁ D₂ J J₁ J₂ c bits hQ hD hJ (suc n) =
+    let rows = inner-add (J n) (J₁ n) (J₂ n) c 1 n bits (omega arith) (λ b l. let e = hJ n b in omega arith) in
+    sum-step₂ (quad Q D J c n) (quad Q₁ D₁ J₁ c n) (quad Q₂ D₂ J₂ c n) (D n) (D₁ n) (D₂ n) (inner (J n) c n) (inner (J₁ n) c n) (inner (J₂ n) c n)
+    (c n) (bits n) (quad-sum Q Q₁ Q₂ D D₁ D₂ J J₁ J₂ c bits hQ hD hJ n) (hD n) (omega arith)
+
 -- ---- polarisation
 
 -- Σ_{a < n} c_a (Σ_{b < a} J_ab e_b) + e_a (Σ_{b < a} J_ab c_b) + c_a e_a O_a
@@ -318,11 +340,11 @@ quad-zero Q D J c zero h = refl
 quad-zero Q D J c (suc n) h = ap₂ (λ q b. q + b * (D n + 4 * inner (J n) c n)) (quad-zero Q D J c n h) (h n) ∙ simp (zero-mul, add-zero)
 
 -- with no coefficients
-pub quad-none : (c : ℕ → ℕ) (D : ℕ → ℕ) (J : ℕ → ℕ → ℕ) (n : ℕ) → ((k : ℕ) → D k ≡ 0) → ((k b : ℕ) → J k b ≡ 0) → quad 0 D J c n ≡ 0
-quad-none c D J zero hD hJ = refl
-quad-none c D J (suc n) hD hJ =
-    ap₂ (λ q d. q + c n * (d + 4 * inner (J n) c n)) (quad-none c D J n hD hJ) (hD n)
-    ∙ ap (λ s. 0 + c n * (0 + 4 * s)) (sum-same (λ b. J n b * c b) (λ b. 0 * c b) n (λ b i. ap (λ x. x * c b) (hJ n b)) ∙ none c n) ∙ simp (mul-zero)
+pub quad-none : (Q : ℕ) (c : ℕ → ℕ) (D : ℕ → ℕ) (J : ℕ → ℕ → ℕ) (n : ℕ) → ((k : ℕ) → D k ≡ 0) → ((k b : ℕ) → J k b ≡ 0) → quad Q D J c n ≡ Q
+quad-none Q c D J zero hD hJ = refl
+quad-none Q c D J (suc n) hD hJ =
+    ap₂ (λ q d. q + c n * (d + 4 * inner (J n) c n)) (quad-none Q c D J n hD hJ) (hD n)
+    ∙ ap (λ s. Q + c n * (0 + 4 * s)) (sum-same (λ b. J n b * c b) (λ b. 0 * c b) n (λ b i. ap (λ x. x * c b) (hJ n b)) ∙ none c n) ∙ simp (mul-zero, add-zero)
   where
     none : (c : ℕ → ℕ) (n : ℕ) → sum (λ b. 0 * c b) n ≡ 0
     none c zero = refl

@@ -5,7 +5,7 @@ use native.Mathlib.Nat.{lt-of-lt-of-le, zero-div, div-eq-of-lt, one-mul, add-zer
 use native.Mathlib.Decide.{decLt}
 use native.Mathlib.Omega.{arith}
 use native.Mathlib.Numerals.{add-one, one-add}
-use lib.Bits.{bitAnd, bitXor, xor-shr, xor-mod, and-shr, and-mod, and-le-l, and-comm}
+use lib.Bits.{bitAnd, bitOr, bitXor, or-shr, or-mod, xor-shr, xor-mod, and-shr, and-mod, and-le-l, and-comm}
 use lib.Pow.{pow-pos, pow-mono, pow-lt, mod-pow-add, field, mod-mod-pow, high, low}
 use lib.Count.{ones, ones-cat, ones-step}
 use Rattle.quadratic.specs.Bits.{bit, dot, sum, inner}
@@ -22,6 +22,10 @@ digit₂ P p q r s x y hx hy = digit (λ x. P x y) (digit (P 0) p q y hy) (digit
 pub digit₃ : (P : ℕ → ℕ → ℕ → Type 0) → P 0 0 0 → P 0 0 1 → P 0 1 0 → P 0 1 1 → P 1 0 0 → P 1 0 1 → P 1 1 0 → P 1 1 1
     → (x y z : ℕ) → x < 2 → y < 2 → z < 2 → P x y z
 digit₃ P p q r s t u v w x y z hx hy hz = digit (λ x. P x y z) (digit₂ (P 0) p q r s y z hy hz) (digit₂ (P 1) t u v w y z hy hz) x hx
+
+-- a bit is not both
+pub not-both : (b : ℕ) → b ≡ 0 → b ≡ 1 → ⊥
+not-both b z o = omega arith
 
 pub bit-lt : (x i : ℕ) → bit x i < 2
 unfolding bit
@@ -42,6 +46,14 @@ pub bit-and : (x y i : ℕ) → bit (bitAnd x y) i ≡ bit x i * bit y i
 unfolding bit
 bit-and x y i =
     ap (λ n. n % 2) (and-shr x y i) ∙ and-mod (x / 2 ^ i) (y / 2 ^ i) 1 ∙ and-digit (bit x i) (bit y i) (bit-lt x i) (bit-lt y i)
+
+or-digit : (x y : ℕ) → x < 2 → y < 2 → bitOr x y ≡ (x + y + x * y) % 2
+or-digit = digit₂ (λ x y. bitOr x y ≡ (x + y + x * y) % 2) refl refl refl refl
+
+pub bit-or : (x y i : ℕ) → bit (bitOr x y) i ≡ (bit x i + bit y i + bit x i * bit y i) % 2
+unfolding bit
+bit-or x y i =
+    ap (λ n. n % 2) (or-shr x y i) ∙ or-mod (x / 2 ^ i) (y / 2 ^ i) 1 ∙ or-digit (bit x i) (bit y i) (bit-lt x i) (bit-lt y i)
 
 -- one more digit
 pub mod-more : (x n : ℕ) → x % 2 ^ suc n ≡ bit x n * 2 ^ n + x % 2 ^ n

@@ -11,10 +11,10 @@ use Rattle.quadratic.specs.Bits.{span, bit, dot}
 use Rattle.quadratic.proofs.Bitlaws.{digit, digit₂, bit-lt, bit-and, bit-past, mod-more}
 use Rattle.quadratic.proofs.Dots.{by-bits}
 use Rattle.quadratic.specs.Echelon.{row, combination, reduced}
-use Rattle.quadratic.specs.Strings.{Member, SameStrings, Numbered}
+use Rattle.quadratic.specs.Strings.{Member, SameStrings}
 use Rattle.quadratic.specs.declared.affine.AffineSpace.{AffineSpace}
 use Rattle.quadratic.proofs.Linear.{move}
-use Rattle.quadratic.proofs.Laws.{Facts, facts, holds, member, member-is, comb-pow, comb-zero, red-linear, red-keep, lead-bit, coordinate}
+use Rattle.quadratic.proofs.Laws.{Facts, facts, holds, member, comb-pow, comb-zero, red-linear, red-keep, lead-bit}
 
 -- no row reaches above its own position
 pub span-lt : (R : ℕ → ℕ) → ((p : ℕ) → R p < 2 ^ suc p) → (c n m : ℕ) → c < 2 ^ n → span R c m < 2 ^ n
@@ -93,10 +93,3 @@ strings-same s t e r y m = (m .0, m .1 ∙ ap₂ bitXor e (rows (m .0) 48 (λ p 
     rows : (c n : ℕ) → ((p : ℕ) → p < n → row (s .rows) p ≡ row (t .rows) p) → span (row (s .rows)) c n ≡ span (row (t .rows)) c n
     rows c zero h = refl
     rows c (suc n) h = ap₂ (λ x z. bitXor x (bit c n * z)) (rows c n (λ p l. h p (omega arith))) (h n (omega arith))
-
-pub numbered : (s : AffineSpace) → Numbered s
-numbered s = record {
-  string = λ c. (c, refl);
-  one = coordinate (s .pivots) (row (s .rows)) (s .shift) (facts s);
-  all = λ y m. member-is (s .pivots) (row (s .rows)) (s .shift) (facts s) y (holds s y m);
-}

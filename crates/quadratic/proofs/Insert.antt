@@ -176,7 +176,5 @@ insert-doubled s s′ g p l top most place off is rows pe he =
     }
 
 -- the rows with bit p, and p
-pub rows-with : (R : ℕ → ℕ) (p m l w : ℕ) → w ≡ bitXor 0 (2 ^ p) → ((q : ℕ) → bit m q ≡ dot w (R q)) → l ≡ bitXor m (2 ^ p) → (q : ℕ) → bit l q ≡ bitXor (bit (R q) p) (bit (2 ^ p) q)
-rows-with R p m l w we is le q =
-    ap (λ x. bit x q) le ∙ bit-linear q m (2 ^ p)
-    ∙ ap (λ x. bitXor x (bit (2 ^ p) q)) (is q ∙ ap (λ x. dot x (R q)) (we ∙ xor-zero-l (2 ^ p)) ∙ dot-comm (2 ^ p) (R q) ∙ dot-pow (R q) p)
+pub rows-with : (R : ℕ → ℕ) (p m l : ℕ) → ((q : ℕ) → bit m q ≡ bit (R q) p) → l ≡ bitXor m (2 ^ p) → (q : ℕ) → bit l q ≡ bitXor (bit (R q) p) (bit (2 ^ p) q)
+rows-with R p m l is le q = ap (λ x. bit x q) le ∙ bit-linear q m (2 ^ p) ∙ ap (λ x. bitXor x (bit (2 ^ p) q)) (is q)

@@ -13,5 +13,11 @@ pub mod Laws
 pub mod Restrict
 pub mod Insert
 pub mod Phases
-pub mod Extend
+pub mod Numbering
+pub mod Append
+pub mod Lists
+pub mod Sight
+pub mod Settle
+pub mod Confine
+pub mod Meet
 pub mod Distinct

@@ -4,3 +4,9 @@ pub mod Value
 pub mod Echelon
 pub mod Strings
 pub mod Phase
+pub mod Numbering
+pub mod Fields
+pub mod Building
+pub mod Meets
+pub mod Sums
+pub mod Running

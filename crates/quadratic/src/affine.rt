@@ -4,11 +4,11 @@ ghost use lib.Bits.{bitAnd};
 ghost use Rattle.quadratic.specs.Bits.{bit as digit};
 ghost use Rattle.quadratic.specs.Echelon.{row};
 
-pub mod ops;
+mod ops;
 
 // An affine space of strings of 48 bits, in reduced echelon form by position: row p begins at bit p, and no other row has that
 // bit, nor has the shift.
-#[derive(Drop)]
+#[derive(Clone, Copy)]
 pub struct AffineSpace {
     pivots: u64,
     rows: [u64; 48],
@@ -22,7 +22,7 @@ pub struct AffineSpace {
 }
 
 // What a restriction did.
-#[derive(Drop)]
+#[derive(Clone, Copy)]
 pub enum Outcome {
     Unchanged,
     Empty,

@@ -7,7 +7,7 @@ ghost use Rattle.quadratic.specs.Quadratic.{link};
 mod ops;
 
 // A quadratic form of 48 variables with values in Z8.
-#[derive(Drop)]
+#[derive(Clone, Copy)]
 pub struct QuadraticForm {
     phase: u8,
     odd: u64,

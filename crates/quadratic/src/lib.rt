@@ -1,4 +1,8 @@
-pub mod bits;
-pub mod form;
+// Quadratic forms with values in Z8 on affine spaces of strings, and their exponential sums.
+mod bits;
 pub mod affine;
+pub mod form;
+pub mod intersection;
 pub mod phased;
+pub mod running;
+pub mod sum;

@@ -5,10 +5,10 @@ ghost use Rattle.quadratic.specs.Value.{valueAt};
 use crate::affine::AffineSpace;
 use crate::form::QuadraticForm;
 
-pub mod ops;
+mod ops;
 
 // A space with a phase at each of its strings. The form sees the pivots alone.
-#[derive(Drop)]
+#[derive(Clone, Copy)]
 pub struct PhasedSpace {
     space: AffineSpace,
     form: QuadraticForm,

@@ -4,16 +4,18 @@ ghost use lib.Bits.{bitXor};
 ghost use lib.Dec.{T};
 ghost use lib.ListN.{getD};
 ghost use Rattle.quadratic.specs.Bits.{bit as digit, dot as parity};
+ghost use Rattle.quadratic.specs.Quadratic.{coef, link};
 ghost use Rattle.quadratic.specs.Value.{valueAt};
 use super::QuadraticForm;
 use crate::bits::bit;
 use crate::bits::dot;
 use crate::bits::shared_below;
 use crate::bits::xor_rows;
+use crate::bits::xor_tables;
 
 impl QuadraticForm {
     // The form's value at the point c.
-    pub fn value(&self, c: u64) -> u8
+    pub(crate) fn value(&self, c: u64) -> u8
         ensures { λ r. ⌜ r ≡ valueAt (now (self .entry)) c ⌝ ∗ ⌜ r < 8 ⌝ }
     {
         let mut sum = self.phase as u64;
@@ -27,7 +29,7 @@ impl QuadraticForm {
     }
 
     // Adds 4 times the parity of the mask.
-    pub fn add_four(&mut self, mask: u64)
+    pub(crate) fn add_four(&mut self, mask: u64)
         requires { ⌜ mask < 2 ^ 48 ⌝ }
         ensures { λ _. ⌜ ((c : ℕ) → valueAt (now (self .exit)) c ≡ (valueAt (now (self .entry)) c + 4 * parity mask c) % 8) ⌝ }
     {
@@ -35,7 +37,7 @@ impl QuadraticForm {
     }
 
     // Adds 2 times the parity of the mask.
-    pub fn add_two(&mut self, mask: u64)
+    pub(crate) fn add_two(&mut self, mask: u64)
         requires { ⌜ mask < 2 ^ 48 ⌝ }
         ensures { λ _. ⌜ ((c : ℕ) → valueAt (now (self .exit)) c ≡ (valueAt (now (self .entry)) c + 2 * parity mask c) % 8) ⌝ }
     {
@@ -45,7 +47,7 @@ impl QuadraticForm {
     }
 
     // Adds `times`, one of 0, 2, 4 and 6, times the parity of the mask.
-    pub fn add_parity(&mut self, times: u8, mask: u64)
+    pub(crate) fn add_parity(&mut self, times: u8, mask: u64)
         requires { ⌜ mask < 2 ^ 48 ⌝ }
         requires { ⌜ times ≤ 6 ⌝ ∗ ⌜ times % 2 ≡ 0 ⌝ }
         ensures { λ _. ⌜ ((c : ℕ) → valueAt (now (self .exit)) c ≡ (valueAt (now (self .entry)) c + times * parity mask c) % 8) ⌝ }
@@ -61,7 +63,7 @@ impl QuadraticForm {
     }
 
     // Adds 4 times the product of the parities of u and v.
-    pub fn add_product(&mut self, u: u64, v: u64)
+    pub(crate) fn add_product(&mut self, u: u64, v: u64)
         requires { ⌜ u < 2 ^ 48 ⌝ ∗ ⌜ v < 2 ^ 48 ⌝ }
         ensures { λ _. ⌜ ((c : ℕ) → valueAt (now (self .exit)) c ≡ (valueAt (now (self .entry)) c + 4 * (parity u c * parity v c)) % 8) ⌝ }
     {
@@ -70,52 +72,83 @@ impl QuadraticForm {
         xor_rows(&mut self.coupling, v, u);
     }
 
-    // The rows that meet u an odd number of times.
-    fn rows_times(&self, u: u64) -> u64
-        ensures below { λ r. ⌜ r < 2 ^ 48 ⌝ }
-        ensures bits { λ r. ⌜ ((a : ℕ) → a < 48 → digit r a ≡ parity (getD (now (self .entry) .coupling) a 0) u) ⌝ }
+    // The form at c becomes what it was at c with variable a turned over.
+    pub(crate) fn flip(&mut self, a: usize)
+        requires { ⌜ a < 48 ⌝ }
+        ensures { λ _. ⌜ ((c : ℕ) → valueAt (now (self .exit)) c ≡ valueAt (now (self .entry)) (bitXor c (2 ^ a))) ⌝ }
     {
-        let mut w = 0;
-        for a in 0..48 {
-            if dot(self.coupling[a], u) == 1 {
-                w += 1 << a;
-            }
+        let own = 2 * bit(self.odd, a) + 4 * bit(self.neg, a);
+        let row = self.coupling[a];
+        self.phase = (self.phase + own as u8) % 8;
+        self.neg ^= row;
+    }
+
+    // The form with one value.
+    pub(crate) fn constant(phase: u8) -> QuadraticForm
+        requires { ⌜ phase < 8 ⌝ }
+        ensures { λ r. ⌜ ((c : ℕ) → valueAt r c ≡ phase) ⌝ ∗ ⌜ r .phase ≡ phase ⌝ }
+    {
+        QuadraticForm { phase, odd: 0, neg: 0, coupling: [0; 48] }
+    }
+
+    pub(crate) fn phase(&self) -> u64
+        ensures { λ r. ⌜ r ≡ now (self .entry) .phase ⌝ }
+    {
+        self.phase as u64
+    }
+
+    // The linear coefficient of a variable; 0 past the last.
+    pub(crate) fn linear(&self, p: usize) -> u64
+        ensures { λ r. ⌜ r ≡ coef (now (self .entry) .odd) (now (self .entry) .neg) p ⌝ }
+    {
+        if p < 48 { 2 * bit(self.odd, p) + 4 * bit(self.neg, p) } else { 0 }
+    }
+
+    // The coupling of two variables; 0 past the last.
+    pub(crate) fn coupling(&self, p: usize, q: usize) -> u64
+        ensures { λ r. ⌜ r ≡ 4 * link (now (self .entry) .coupling) p q ⌝ }
+    {
+        if p >= 48 {
+            return 0;
         }
-        w
+        if q >= 48 {
+            return 0;
+        }
+        4 * bit(self.coupling[p], q)
     }
 
-    // The form at c becomes what it was at c ^ u.
-    pub fn translate(&mut self, u: u64)
-        ensures { λ _. ⌜ ((c : ℕ) → valueAt (now (self .exit)) c ≡ valueAt (now (self .entry)) (bitXor c u)) ⌝ }
+    // This form less another, word by word.
+    pub(crate) fn minus(&self, other: &QuadraticForm) -> QuadraticForm
+        ensures { λ r. ⌜ ((c : ℕ) → (valueAt r c + valueAt (now (other .entry)) c) % 8 ≡ valueAt (now (self .entry)) c) ⌝ }
     {
-        let w = self.rows_times(u);
-        let phase = self.value(u);
-        self.phase = phase;
-        self.neg ^= w;
-    }
-
-    // The form that is 0 everywhere.
-    pub fn new() -> QuadraticForm
-        ensures { λ r. ⌜ ((c : ℕ) → valueAt r c ≡ 0) ⌝ }
-    {
+        let odd = self.odd ^ other.odd;
+        let mut coupling = self.coupling;
+        xor_tables(&mut coupling, &other.coupling);
         QuadraticForm {
-            phase: 0,
-            odd: 0,
-            neg: 0,
-            coupling: [0; 48],
+            phase: (self.phase + 8 - other.phase) % 8,
+            odd,
+            neg: self.neg ^ other.neg ^ (other.odd & odd),
+            coupling,
         }
     }
 
-    // The bilinear form of this one: how far the value at c ^ e is from the sum of the values.
-    pub fn bilinear(&self, c: u64, e: u64) -> u64
-        ensures small { λ r. ⌜ r < 2 ⌝ }
-        ensures polar { λ r. ⌜ (valueAt (now (self .entry)) (bitXor c e) + valueAt (now (self .entry)) 0) % 8 ≡ (valueAt (now (self .entry)) c + valueAt (now (self .entry)) e + 4 * r) % 8 ⌝ }
+    // The variables with the linear coefficient 2 or 6.
+    pub(crate) fn odd(&self) -> u64
+        ensures { λ r. ⌜ r ≡ now (self .entry) .odd ⌝ }
     {
-        dot(self.rows_times(e), c)
+        self.odd
+    }
+
+    // The variables that a variable is coupled with, itself among them where its linear coefficient is 2 or 6.
+    pub(crate) fn partners(&self, a: usize) -> u64
+        requires { ⌜ a < 48 ⌝ }
+        ensures { λ r. ⌜ r ≡ getD (now (self .entry) .coupling) a 0 ⌝ }
+    {
+        self.coupling[a]
     }
 
     // Whether two forms have the same values.
-    pub fn same(&self, other: &QuadraticForm) -> bool
+    pub(crate) fn same(&self, other: &QuadraticForm) -> bool
         ensures sound { λ r. ⌜ (T r → ((c : ℕ) → valueAt (now (self .entry)) c ≡ valueAt (now (other .entry)) c)) ⌝ }
         ensures complete { λ r. ⌜ (((c : ℕ) → c < 2 ^ 48 → valueAt (now (self .entry)) c ≡ valueAt (now (other .entry)) c) → T r) ⌝ }
     {
@@ -137,7 +170,7 @@ impl QuadraticForm {
     }
 
     // What the value gains where variable a of the point c is turned over.
-    pub fn slope(&self, a: usize, c: u64) -> u8
+    pub(crate) fn slope(&self, a: usize, c: u64) -> u8
         requires { ⌜ a < 48 ⌝ }
         ensures { λ r. ⌜ valueAt (now (self .entry)) (bitXor c (2 ^ a)) ≡ (valueAt (now (self .entry)) c + r) % 8 ⌝ }
     {
@@ -146,7 +179,7 @@ impl QuadraticForm {
     }
 
     // Makes the form independent of variable a, by setting that variable to 0.
-    pub fn clear(&mut self, a: usize)
+    pub(crate) fn clear(&mut self, a: usize)
         requires { ⌜ a < 48 ⌝ }
         ensures off { λ _. ⌜ ((c : ℕ) → digit c a ≡ 0 → valueAt (now (self .exit)) c ≡ valueAt (now (self .entry)) c) ⌝ }
         ensures free { λ _. ⌜ ((c : ℕ) → valueAt (now (self .exit)) (bitXor c (2 ^ a)) ≡ valueAt (now (self .exit)) c) ⌝ }
@@ -160,7 +193,7 @@ impl QuadraticForm {
     }
 
     // Puts the parity of the mask in the place of variable a.
-    pub fn substitute(&mut self, a: usize, mask: u64)
+    pub(crate) fn substitute(&mut self, a: usize, mask: u64)
         requires { ⌜ a < 48 ⌝ ∗ ⌜ mask < 2 ^ 48 ⌝ ∗ ⌜ digit mask a ≡ 0 ⌝ }
         ensures values { λ _. ⌜ ((c : ℕ) → digit c a ≡ parity mask c → valueAt (now (self .exit)) c ≡ valueAt (now (self .entry)) c) ⌝ }
         ensures free { λ _. ⌜ ((c : ℕ) → valueAt (now (self .exit)) (bitXor c (2 ^ a)) ≡ valueAt (now (self .exit)) c) ⌝ }
@@ -174,45 +207,24 @@ impl QuadraticForm {
     }
 
     // Puts beta and the parity of the mask in the place of variable a.
-    pub fn fix(&mut self, a: usize, mask: u64, beta: u64)
+    pub(crate) fn fix(&mut self, a: usize, mask: u64, beta: u64)
         requires place { ⌜ a < 48 ⌝ }
         requires low { ⌜ mask < 2 ^ 48 ⌝ }
         requires free { ⌜ digit mask a ≡ 0 ⌝ }
         requires small { ⌜ beta < 2 ⌝ }
         ensures { λ _. ⌜ ((c : ℕ) → valueAt (now (self .exit)) c ≡ valueAt (now (self .entry)) (bitXor c (bitXor (digit c a) (bitXor (parity mask c) beta) * 2 ^ a))) ⌝ }
     {
-        self.translate(beta << a);
+        if beta == 1 {
+            self.flip(a);
+        }
         self.substitute(a, mask);
     }
 
     // Adds a constant.
-    pub fn add_phase(&mut self, k: u8)
+    pub(crate) fn add_phase(&mut self, k: u8)
         requires { ⌜ k < 8 ⌝ }
         ensures { λ _. ⌜ ((c : ℕ) → valueAt (now (self .exit)) c ≡ (valueAt (now (self .entry)) c + k) % 8) ⌝ }
     {
         self.phase = (self.phase + k) % 8;
-    }
-
-    // Adds `times`, one of 0, 2, 4 and 6, where the parity of the mask is not `base`.
-    pub fn add_affine(&mut self, times: u8, base: u64, mask: u64)
-        requires low { ⌜ mask < 2 ^ 48 ⌝ }
-        requires even { ⌜ times ≤ 6 ⌝ ∗ ⌜ times % 2 ≡ 0 ⌝ }
-        requires small { ⌜ base < 2 ⌝ }
-        ensures { λ _. ⌜ ((c : ℕ) → valueAt (now (self .exit)) c ≡ (valueAt (now (self .entry)) c + times * bitXor base (parity mask c)) % 8) ⌝ }
-    {
-        if base == 0 {
-            self.add_parity(times, mask);
-        } else {
-            self.add_phase(times);
-            self.add_parity((8 - times) % 8, mask);
-        }
-    }
-
-    // The mask of the bilinear form at u: what the value gains where u is added.
-    pub fn polar(&self, u: u64) -> u64
-        ensures low { λ r. ⌜ r < 2 ^ 48 ⌝ }
-        ensures gain { λ r. ⌜ ((c : ℕ) → (valueAt (now (self .entry)) (bitXor c u) + valueAt (now (self .entry)) 0) % 8 ≡ (valueAt (now (self .entry)) c + valueAt (now (self .entry)) u + 4 * parity r c) % 8) ⌝ }
-    {
-        self.rows_times(u)
     }
 }

@@ -1,110 +1,215 @@
 ghost use mathlib.Core.Path.{_≡_};
-ghost use mathlib.Core.Bool.{cond};
-ghost use Prim.Native.Nat.{ℕ, _*_, _%_, _^_, _<_, _≤_};
-ghost use lib.Dec.{eqb};
-ghost use Rattle.std.specs.declared.option.Option.the-variants.{Some, None};
-ghost use Rattle.quadratic.specs.Bits.{dot as parity};
-ghost use Rattle.quadratic.specs.Bits.{flag as numeral};
-ghost use Rattle.quadratic.specs.Phase.{phase, Kept, turn, Grown};
+ghost use Prim.Native.Nat.{ℕ, _+_, _*_, _%_, _^_, _<_, _≤_};
+ghost use lib.Bits.{bitAnd, bitXor};
+ghost use lib.Count.{ones};
+ghost use Rattle.quadratic.specs.Bits.{bit as digit};
+ghost use Rattle.quadratic.specs.Building.{Begun, RowAdded, Reshifted, LinearAdded, Coupled};
+ghost use Rattle.quadratic.specs.Fields.{rowOf, linearOf, couplingOf, linearAt, couplingAt};
+ghost use Rattle.quadratic.specs.Numbering.{spread};
+ghost use Rattle.quadratic.specs.Phase.{phase as phaseOf, Meets};
+ghost use Rattle.quadratic.specs.Strings.{Member};
+ghost use Rattle.quadratic.specs.Echelon.{row as rowOfTable};
+ghost use Rattle.quadratic.specs.Value.{valueAt, Sees};
 use super::PhasedSpace;
 use crate::affine::AffineSpace;
-use crate::form::QuadraticForm;
-use crate::affine::Outcome;
-use crate::affine::ops::flag;
 use crate::bits::bit;
-use crate::bits::dot;
-use crate::bits::highest;
+use crate::bits::deposit;
 use crate::bits::lowest;
+use crate::bits::nth;
 use crate::bits::turned;
+use crate::form::QuadraticForm;
 
 impl PhasedSpace {
-    // The phase at y, if y is in the space.
+    // The zero string alone, with a phase taken modulo 8.
+    pub fn origin(phase: u64) -> PhasedSpace
+        ensures { λ r. ⌜ Begun r (phase % 8) ⌝ }
+    {
+        PhasedSpace {
+            space: AffineSpace::origin(),
+            form: QuadraticForm::constant((phase % 8) as u8),
+        }
+    }
+
+    // One more row below the others, where that keeps the reduced echelon form: the position of its pivot.
+    pub fn append_row(&mut self, row: u64) -> Option<usize>
+        ensures { λ r. ⌜ RowAdded r (now (self .entry)) (now (self .exit)) row ⌝ }
+    {
+        self.space.append(row)
+    }
+
+    // Another shift, where it is 0 at every pivot.
+    pub fn set_shift(&mut self, shift: u64) -> bool
+        ensures { λ r. ⌜ Reshifted r (now (self .entry)) (now (self .exit)) shift ⌝ }
+    {
+        self.space.set_shift(shift)
+    }
+
+    // Adds an even number to the linear coefficient of the row with the pivot p, if there is one.
+    pub fn add_linear(&mut self, p: usize, times: u64) -> bool
+        ensures { λ r. ⌜ LinearAdded r (now (self .entry)) (now (self .exit)) p times ⌝ }
+    {
+        if !self.space.is_pivot(p) {
+            return false;
+        }
+        if times > 6 {
+            return false;
+        }
+        if times % 2 == 1 {
+            return false;
+        }
+        self.form.add_parity(times as u8, turned(0, p));
+        true
+    }
+
+    // Turns over the coupling of the rows with the pivots p and q, if there are two such rows.
+    pub fn couple(&mut self, p: usize, q: usize) -> bool
+        ensures { λ r. ⌜ Coupled r (now (self .entry)) (now (self .exit)) p q ⌝ }
+    {
+        if !self.space.is_pivot(p) {
+            return false;
+        }
+        if !self.space.is_pivot(q) {
+            return false;
+        }
+        if p == q {
+            return false;
+        }
+        self.form.add_product(turned(0, p), turned(0, q));
+        true
+    }
+
+    // The positions of the pivots, as a string.
+    pub fn pivots(&self) -> u64
+        ensures { λ r. ⌜ r ≡ now (self .entry) .space .pivots ⌝ }
+    {
+        self.space.pivots()
+    }
+
+    pub fn shift(&self) -> u64
+        ensures { λ r. ⌜ r ≡ now (self .entry) .space .shift ⌝ }
+    {
+        self.space.shift()
+    }
+
+    pub fn phase(&self) -> u64
+        ensures { λ r. ⌜ r ≡ now (self .entry) .form .phase ⌝ }
+    {
+        self.form.phase()
+    }
+
+    // How many rows there are.
+    pub fn dimension(&self) -> u64
+        ensures { λ r. ⌜ r ≡ ones (now (self .entry) .space .pivots) ⌝ }
+    {
+        u64::from(self.space.pivots().count_ones())
+    }
+
+    // The row with its pivot at a position; 0 where there is none.
+    pub fn row_at(&self, p: usize) -> u64
+        ensures { λ r. ⌜ r ≡ rowOfTable (now (self .entry) .space .rows) p ⌝ }
+    {
+        self.space.row_at(p)
+    }
+
+    // The linear coefficient of the row with the pivot p; 0 where there is none.
+    pub fn linear_at(&self, p: usize) -> u64
+        ensures { λ r. ⌜ r ≡ linearAt (now (self .entry)) p ⌝ }
+    {
+        self.form.linear(p)
+    }
+
+    // The coupling of the rows with the pivots p and q; 0 where there are none.
+    pub fn coupling_at(&self, p: usize, q: usize) -> u64
+        ensures { λ r. ⌜ r ≡ couplingAt (now (self .entry)) p q ⌝ }
+    {
+        self.form.coupling(p, q)
+    }
+
+    // Row a, counted from 1 at the highest pivot.
+    pub fn row(&self, a: u64) -> Option<u64>
+        ensures { λ r. ⌜ r ≡ rowOf (now (self .entry)) a ⌝ }
+    {
+        match nth(self.space.pivots(), a) {
+            Some(p) => Some(self.row_at(p)),
+            None => None,
+        }
+    }
+
+    // The linear coefficient of row a.
+    pub fn linear(&self, a: u64) -> Option<u64>
+        ensures { λ r. ⌜ r ≡ linearOf (now (self .entry)) a ⌝ }
+    {
+        match nth(self.space.pivots(), a) {
+            Some(p) => Some(self.linear_at(p)),
+            None => None,
+        }
+    }
+
+    // The coupling of rows a and b.
+    pub fn coupling(&self, a: u64, b: u64) -> Option<u64>
+        ensures { λ r. ⌜ r ≡ couplingOf (now (self .entry)) a b ⌝ }
+    {
+        match nth(self.space.pivots(), a) {
+            Some(p) => match nth(self.space.pivots(), b) {
+                Some(q) => Some(self.coupling_at(p, q)),
+                None => None,
+            },
+            None => None,
+        }
+    }
+
+    // The phase at the string y, if y is in the space.
     pub fn phase_at(&self, y: u64) -> Option<u8>
-        ensures { λ r. ⌜ r ≡ phase (now (self .entry)) y ⌝ }
+        ensures { λ r. ⌜ r ≡ phaseOf (now (self .entry)) y ⌝ }
     {
         if self.space.contains(y) { Some(self.form.value(y)) } else { None }
     }
 
-    // Keeps the strings whose parity with w is b.
-    pub fn restrict(&mut self, w: u64, b: bool) -> Outcome
-        ensures { λ r. ⌜ Kept r (now (self .entry)) (now (self .exit)) w (numeral b) ⌝ }
+    // The strings in both spaces, each with this space's phase less the other's; None where there is no such string.
+    pub fn meet(&self, other: &PhasedSpace) -> Option<PhasedSpace>
+        ensures { λ r. ⌜ Meets r (now (self .entry)) (now (other .entry)) ⌝ }
     {
-        let l = self.space.responses(w);
-        let beta = dot(w, self.space.shift()) ^ flag(b);
-        if l == 0 {
-            return if beta == 0 { Outcome::Unchanged } else { Outcome::Empty };
+        let mut space = self.space;
+        if !space.confine(&other.space) {
+            return None;
         }
-        let p = lowest(l);
-        self.space.cut(l, p, beta);
-        self.form.fix(p, turned(l, p), beta);
-        Outcome::Restricted
+        let mut form = self.form.minus(&other.form);
+        let all = self.space.pivots() | other.space.pivots();
+        settle(&mut form, &space, all ^ (all & space.pivots()));
+        Some(PhasedSpace { space, form })
     }
 
-    // The string y alone, with phase 0.
-    pub fn point(y: u64) -> PhasedSpace
-        requires { ⌜ y < 2 ^ 48 ⌝ }
-        ensures { λ r. ⌜ ((x : ℕ) → phase r x ≡ cond (eqb x y) (Some 0) None) ⌝ }
+    // Whether two spaces have the same strings with the same phases.
+    pub fn same(&self, other: &PhasedSpace) -> bool
     {
-        PhasedSpace {
-            space: AffineSpace::point(y),
-            form: QuadraticForm::new(),
-        }
+        self.space.same(&other.space) && self.form.same(&other.form)
     }
 
-    // Adds `times`, one of 0, 2, 4 and 6, where the parity with w is odd.
-    pub fn add_parity(&mut self, times: u8, w: u64)
-        requires { ⌜ times ≤ 6 ⌝ ∗ ⌜ times % 2 ≡ 0 ⌝ }
-        ensures { λ _. ⌜ ((y : ℕ) → phase (now (self .exit)) y ≡ turn (times * parity w y) (phase (now (self .entry)) y)) ⌝ }
+    // The form's value at the string numbered by c: row a is in it when bit a - 1 of c is 1.
+    pub fn numbered_value(&self, c: u64) -> u64
+        ensures { λ r. ⌜ r ≡ valueAt (now (self .entry) .form) (spread 48 (now (self .entry) .space .pivots) c) ⌝ ∗ ⌜ r < 8 ⌝ }
     {
-        let l = self.space.responses(w);
-        let base = dot(w, self.space.shift());
-        self.form.add_affine(times, base, l);
+        self.form.value(deposit(self.space.pivots(), c)) as u64
     }
 
-    // Adds the direction d, unless it is a combination of rows: the phase at y ^ d is that at y, with kappa and 4 times the
-    // parity of z and y added.
-    pub fn extend(&mut self, d: u64, kappa: u8, z: u64) -> bool
-        requires low { ⌜ d < 2 ^ 48 ⌝ }
-        requires even { ⌜ kappa ≤ 6 ⌝ ∗ ⌜ kappa % 2 ≡ 0 ⌝ }
-        ensures { λ r. ⌜ Grown r (now (self .entry)) (now (self .exit)) d kappa z ⌝ }
+    pub(crate) fn form(&self) -> QuadraticForm
+        ensures { λ r. ⌜ r ≡ now (self .entry) .form ⌝ }
     {
-        let pivots = self.space.pivots();
-        let shift = self.space.shift();
-        let u = d & pivots;
-        let g = d ^ self.space.combination(u);
-        if g == 0 {
-            return false;
-        }
-        let p = highest(g);
-        let m = turned(self.space.responses(turned(0, p)), p);
-        let base = bit(shift, p);
-        let l = self.space.responses(z);
-        let n = (l ^ self.form.polar(u)) & pivots;
-        let turns = (kappa + self.form.value(u) + 7 * self.form.value(0) + 4 * dot(z, shift) as u8 + 4 * dot(l, u) as u8) % 8;
-        self.space.insert(g, p);
-        self.form.add_affine(turns, base, m);
-        self.form.add_product(m, n);
-        self.form.add_parity(4 * base as u8, n);
-        true
+        self.form
     }
 }
 
-#[cfg(test)]
-mod tests {
-    use super::*;
-    use std::test::*;
-
-    #[test]
-    fn bell_pair() -> Result<(), Fail> {
-        let mut s = PhasedSpace::point(0);
-        let _ = s.extend(0b11, 0, 0);
-        check_eq(s.phase_at(0b00), Some(0))?;
-        check_eq(s.phase_at(0b11), Some(0))?;
-        check_eq(s.phase_at(0b01), None)?;
-        s.add_parity(2, 0b10);
-        check_eq(s.phase_at(0b11), Some(2))?;
-        let _ = s.restrict(0b01, true);
-        check_eq(s.phase_at(0b11), Some(2))?;
-        check_eq(s.phase_at(0b00), None)
+// Puts, in the place of each variable of `gone`, what the strings of the space have there.
+fn settle(form: &mut QuadraticForm, space: &AffineSpace, gone: u64)
+    requires inside { ⌜ gone < 2 ^ 48 ⌝ }
+    requires apart { ⌜ bitAnd gone (now space .pivots) ≡ 0 ⌝ }
+    ensures kept { λ _. ⌜ ((y : ℕ) → Member (now (space .entry)) y → valueAt (now (form .exit)) y ≡ valueAt (now (form .entry)) y) ⌝ }
+    ensures seen { λ _. ⌜ (Sees (now (form .entry)) (bitXor (now (space .entry) .pivots) gone) → Sees (now (form .exit)) (now (space .entry) .pivots)) ⌝ }
+{
+    let mut left = gone;
+    while left != 0 {
+        let i = lowest(left);
+        form.fix(i, space.column(i), bit(space.shift(), i));
+        left = turned(left, i);
     }
 }
