@@ -55,6 +55,11 @@ unfolding bit
 bit-or x y i =
     ap (λ n. n % 2) (or-shr x y i) ∙ or-mod (x / 2 ^ i) (y / 2 ^ i) 1 ∙ or-digit (bit x i) (bit y i) (bit-lt x i) (bit-lt y i)
 
+-- a bit of both
+pub bits-both : (x y i : ℕ) → bit (bitAnd x y) i ≡ 1 → (bit x i ≡ 1) × (bit y i ≡ 1)
+bits-both x y i h = digit₂ (λ a b. a * b ≡ 1 → (a ≡ 1) × (b ≡ 1)) (λ e. absurd (not-both 0 refl e)) (λ e. absurd (not-both 0 refl e)) (λ e. absurd (not-both 0 refl e)) (λ e. (refl, refl))
+    (bit x i) (bit y i) (bit-lt x i) (bit-lt y i) (sym (bit-and x y i) ∙ h)
+
 -- one more digit
 pub mod-more : (x n : ℕ) → x % 2 ^ suc n ≡ bit x n * 2 ^ n + x % 2 ^ n
 unfolding bit

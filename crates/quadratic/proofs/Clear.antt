@@ -13,6 +13,8 @@ use lib.Seq.{getD-set-other}
 use lib.Pow.{pow-pos, pow-lt}
 use Rattle.quadratic.specs.Bits.{bit, dot, inner, RowsXor}
 use Rattle.quadratic.specs.Quadratic.{quad, coef, link}
+use Rattle.quadratic.specs.Value.{valueAt}
+use Rattle.quadratic.specs.declared.form.QuadraticForm.{QuadraticForm}
 use Rattle.quadratic.proofs.Bitlaws.{bit-lt, bit-xor, bit-and, bit-zero, bit-pow, bit-pow-other}
 use Rattle.quadratic.proofs.Dots.{dot-pow}
 use Rattle.quadratic.proofs.Algebra.{add8, carry, cancel8, quad-one, quad-off}
@@ -122,3 +124,9 @@ module _ (t t₁ : List ℕ) (here a : ℕ) (e : here ≡ 2 ^ a) (x : RowsXor t 
       let z : dot (getD (set t₁ a 0) a 0) c ≡ 0 = ap (λ r. dot r c) (set-zero t₁ a) ∙ none c in
       let q = quad phase (coef o n) (link (set t₁ a 0)) (bit c) dim in
       v ∙ ap₂ (λ d s. (q % 8 + (d + 4 * s)) % 8) (ap₂ (λ x y. 2 * x + 4 * y) (gone odd here a e) (gone neg here a e)) z ∙ simp add-zero (mod-mod q 8)
+
+-- what the value gains where variable a is turned over
+pub slope-at : (f : QuadraticForm) (a c : ℕ) → a < 48
+    → valueAt f (bitXor c (2 ^ a)) ≡ (valueAt f c + (coef (f .odd) (f .neg) a + 4 * dot (getD (f .coupling) a 0) c)) % 8
+unfolding valueAt
+slope-at f a c l = value-bit 48 (f .phase) (f .odd) (f .neg) (f .coupling) (f .inside) (f .square) (f .own) a c l

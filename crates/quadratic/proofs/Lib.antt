@@ -20,4 +20,7 @@ pub mod Sight
 pub mod Settle
 pub mod Confine
 pub mod Meet
+pub mod Over
+pub mod Summing
+pub mod Eliminate
 pub mod Distinct

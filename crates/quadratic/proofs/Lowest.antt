@@ -7,10 +7,10 @@ use native.Mathlib.Nat.{mod-eq-of-lt, mul-zero, mul-one, one-mul, add-zero, pow-
 use native.Mathlib.Numerals.{add-one, one-add}
 use native.Mathlib.Omega.{arith}
 use lib.Bits.{bitAnd, bitXor, xor-add-and, xor-lt}
-use lib.Count.{trailingZeros, under}
+use lib.Count.{ones, trailingZeros, under}
 use lib.Pow.{pow-pos, pow-lt, shr-shr}
-use Rattle.quadratic.specs.Bits.{bit}
-use Rattle.quadratic.proofs.Bitlaws.{digit, bit-lt, bit-xor, bit-and, bit-pow, bit-pow-other, bit-past}
+use Rattle.quadratic.specs.Bits.{bit, sum}
+use Rattle.quadratic.proofs.Bitlaws.{digit, bit-lt, bit-xor, bit-and, bit-pow, bit-pow-other, bit-past, ones-low}
 use Rattle.quadratic.proofs.Dots.{by-bits}
 
 -- digit i of the half is digit i + 1
@@ -60,3 +60,27 @@ dropped x a o = bit-xor x (2 ^ a) a ∙ ap₂ (λ p q. (p + q) % 2) o (bit-pow a
 
 pub undropped : (x a k : ℕ) → k ≢ a → bit (bitXor x (2 ^ a)) k ≡ bit x k
 undropped x a k ne = bit-xor x (2 ^ a) k ∙ ap (λ q. (bit x k + q) % 2) (bit-pow-other a k ne) ∙ simp add-zero (mod-eq-of-lt (bit-lt x k))
+
+-- one bit less
+sum-drop : (f g : ℕ → ℕ) (a n : ℕ) → a < n → f a ≡ 1 → g a ≡ 0 → ((k : ℕ) → k ≢ a → g k ≡ f k) → sum g n + 1 ≡ sum f n
+sum-drop f g a zero l o z h = absurd (omega arith)
+sum-drop f g a (suc n) l o z h =
+    elim (ℕ-discrete n a) [
+      | yes e ↦ let s = same n (omega arith) in let x = ap f e in let y = ap g e in omega (arith, s, x, y)
+      | no ne ↦ let r = sum-drop f g a n (omega arith) o z h in let s = h n ne in omega (arith, r, s)
+    ]
+  where
+    same : (m : ℕ) → m ≤ a → sum g m ≡ sum f m
+    same zero i = refl
+    same (suc m) i = ap₂ _+_ (same m (omega arith)) (h m (omega arith))
+
+pub ones-drop : (x a : ℕ) → x < 2 ^ 48 → bit x a ≡ 1 → ones (bitXor x (2 ^ a)) + 1 ≡ ones x
+ones-drop x a l on =
+    let i = set-below 48 x a l on in
+    let low : bitXor x (2 ^ a) < 2 ^ 48 = xor-lt 48 x (2 ^ a) l (pow-lt i) in
+    let e = sum-drop (bit x) (bit (bitXor x (2 ^ a))) a 48 i on (dropped x a on) (λ k ne. undropped x a k ne) in
+    ap (λ n. n + 1) (ap ones (sym (mod-eq-of-lt low)) ∙ ones-low 48 (bitXor x (2 ^ a))) ∙ e ∙ sym (ones-low 48 x) ∙ ap ones (mod-eq-of-lt l)
+
+pub ones-zero : ones 0 ≡ 0
+unfolding ones
+ones-zero = refl

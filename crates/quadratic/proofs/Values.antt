@@ -6,7 +6,8 @@ use native.Mathlib.Nat.{mod-lt, mod-eq-of-lt}
 use lib.Dec.{lit<}
 use Rattle.quadratic.specs.Bits.{bit, inner}
 use Rattle.quadratic.specs.Quadratic.{coef, link, quad}
-use Rattle.quadratic.proofs.Bitlaws.{digit, bit-lt}
+use Rattle.quadratic.proofs.Algebra.{quad-zero}
+use Rattle.quadratic.proofs.Bitlaws.{digit, bit-lt, bit-zero}
 use Rattle.quadratic.specs.Value.{terms, valueAt}
 use Rattle.quadratic.specs.declared.form.QuadraticForm.{QuadraticForm}
 
@@ -31,3 +32,8 @@ even-mod x y h = omega arith
 pub value-even : (f : QuadraticForm) (c : ℕ) → valueAt f c % 2 ≡ f .phase % 2
 unfolding valueAt
 value-even f c = even-mod (terms f c 48) (f .phase % 2) (even-quad (f .phase) (f .odd) (f .neg) c (link (f .coupling)) 48)
+
+-- at no variable the value is the phase
+pub value-zero : (f : QuadraticForm) → valueAt f 0 ≡ f .phase % 8
+unfolding valueAt
+value-zero f = ap (λ q. q % 8) (quad-zero (f .phase) (coef (f .odd) (f .neg)) (link (f .coupling)) (bit 0) 48 bit-zero)

@@ -99,9 +99,13 @@ impl QuadraticForm {
 
     // The linear coefficient of a variable; 0 past the last.
     pub(crate) fn linear(&self, p: usize) -> u64
-        ensures { λ r. ⌜ r ≡ coef (now (self .entry) .odd) (now (self .entry) .neg) p ⌝ }
+        ensures value { λ r. ⌜ r ≡ coef (now (self .entry) .odd) (now (self .entry) .neg) p ⌝ }
+        ensures bound { λ r. ⌜ r ≤ 6 ⌝ }
     {
-        if p < 48 { 2 * bit(self.odd, p) + 4 * bit(self.neg, p) } else { 0 }
+        if p >= 48 {
+            return 0;
+        }
+        2 * bit(self.odd, p) + 4 * bit(self.neg, p)
     }
 
     // The coupling of two variables; 0 past the last.
@@ -167,15 +171,6 @@ impl QuadraticForm {
             }
         }
         true
-    }
-
-    // What the value gains where variable a of the point c is turned over.
-    pub(crate) fn slope(&self, a: usize, c: u64) -> u8
-        requires { ⌜ a < 48 ⌝ }
-        ensures { λ r. ⌜ valueAt (now (self .entry)) (bitXor c (2 ^ a)) ≡ (valueAt (now (self .entry)) c + r) % 8 ⌝ }
-    {
-        let own = 2 * bit(self.odd, a) + 4 * bit(self.neg, a);
-        (own + 4 * dot(self.coupling[a], c)) as u8
     }
 
     // Makes the form independent of variable a, by setting that variable to 0.

@@ -6,10 +6,9 @@ use lib.ListN.{getD}
 use Rattle.std.proofs.shelf.Bits.{one-shl}
 use Rattle.quadratic.specs.Bits.{bit, dot}
 use Rattle.quadratic.specs.Quadratic.{coef}
-use Rattle.quadratic.specs.Value.{terms, valueAt}
-use Rattle.quadratic.specs.declared.form.QuadraticForm.{QuadraticForm}
+use Rattle.quadratic.specs.Value.{valueAt}
 use Rattle.quadratic.proofs.Values.{value-lt}
-use Rattle.quadratic.proofs.Clear.{value-bit, gone, mask-below}
+use Rattle.quadratic.proofs.Clear.{gone, mask-below, slope-at}
 use Rattle.quadratic.proofs.Substitute.{dot-keep, subst-free, subst-values}
 use Rattle.quadratic.proofs.form.QuadraticForm.substitute.Needs as need
 
@@ -19,12 +18,6 @@ add-product-requires c κs =
     let a = c .args .a in
     let e = one-shl a 64 (omega arith) in
     (c .pre .1 .0, mask-below (getD (f .coupling) a 0) ((1 * 2 ^ a) % 2 ^ 64) a e 48 (f .inside a))
-
-at : (f : QuadraticForm) (a t : ℕ) → a < 48 → t ≡ coef (f .odd) (f .neg) a → (p : ℕ) → valueAt f (bitXor p (2 ^ a)) ≡ (valueAt f p + (t + 4 * dot (getD (f .coupling) a 0) p)) % 8
-unfolding valueAt
-at f a t l e p =
-    value-bit 48 (f .phase) (f .odd) (f .neg) (f .coupling) (f .inside) (f .square) (f .own) a p l
-    ∙ ap (λ t. (terms f p 48 % 8 + (t + 4 * dot (getD (f .coupling) a 0) p)) % 8) (sym e)
 
 pub returns : need.returns
 returns c =
@@ -40,7 +33,7 @@ returns c =
     let v₁ = valueAt (c .clear .last .self) in
     let v₂ = valueAt (c .add-parity .last .self) in
     let v₃ = valueAt (c .add-product .last .self) in
-    let up = at f a t (c .pre .0) te in
+    let up = λ (p : ℕ). slope-at f a p (c .pre .0) ∙ ap (λ d. (valueAt f p + (d + 4 * dot row p)) % 8) (sym te) in
     record {
       values = subst-values a (c .args .mask) rest row t v v₁ v₂ v₃ (value-lt f) up (c .clear .ensures .off) (c .clear .ensures .free) (c .add-parity .ensures) (c .add-product .ensures)
           (c .pre .1 .1) (gone row h a e) (λ p z. dot-keep row h a p e z);
