@@ -23,4 +23,5 @@ pub mod Meet
 pub mod Over
 pub mod Summing
 pub mod Eliminate
+pub mod Adding
 pub mod Distinct

@@ -1,7 +1,9 @@
 ghost use mathlib.Core.Path.{_≡_};
 ghost use Prim.Native.Nat.{ℕ, _+_, _<_};
 ghost use Rattle.cyclotomic.specs.Refusals.{answerOf};
-
+ghost use Rattle.quadratic.specs.Meets.{stringsIn};
+ghost use Rattle.quadratic.specs.Running.{addNumber, termIn};
+ghost use Rattle.quadratic.specs.Sums.{total as totalOf};
 use crate::intersection::Intersection;
 use cyclotomic::embedding::power;
 use cyclotomic::refusal::Refusal;
@@ -24,12 +26,15 @@ impl<R: Ring> RunningSum<R> {
 
     // Adds the string that the count numbers: row a is in string c when bit a - 1 of c is 1.
     pub fn add(&mut self, x: &Intersection) -> Result<(), Refusal>
+        ensures number { λ r. ⌜ answerOf r ≡ addNumber (now (self .entry) .count) (now (x .entry)) ⌝ }
+        ensures count { λ r. ⌜ (answerOf r ≡ 0 → now (self .exit) .count ≡ now (self .entry) .count + 1) ⌝ }
+        ensures value { λ r. ⌜ (answerOf r ≡ 0 → value (now (self .exit) .value) ≡ ops .plus (value (now (self .entry) .value)) (termIn ops (now (x .entry)) (now (self .entry) .count))) ⌝ }
+        ensures refused { λ r. ⌜ (0 < answerOf r → now (self .exit) ≡ now (self .entry)) ⌝ }
     {
         let Intersection::Space(s) = x else {
             return Err(Refusal::Finished);
         };
-        let strings: u64 = 1 << s.dimension();
-        if self.count >= strings {
+        if self.count >= s.strings() {
             return Err(Refusal::Finished);
         }
         let term: R = power(R::omega(), s.numbered_value(self.count));
@@ -49,4 +54,14 @@ impl<R: Ring> RunningSum<R> {
     {
         self.count
     }
+}
+
+// The running sum to which every string of the intersection has been added.
+pub fn total<R: Ring>(x: &Intersection) -> RunningSum<R>
+    ensures value { λ r. ⌜ value (r .value) ≡ totalOf ops (now (x .entry)) ⌝ }
+    ensures count { λ r. ⌜ r .count ≡ stringsIn (now (x .entry)) ⌝ }
+{
+    let mut sum = RunningSum::new();
+    while sum.add(x).is_ok() {}
+    sum
 }

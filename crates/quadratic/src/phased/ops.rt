@@ -104,6 +104,13 @@ impl PhasedSpace {
         u64::from(self.space.pivots().count_ones())
     }
 
+    // How many strings there are.
+    pub fn strings(&self) -> u64
+        ensures { λ r. ⌜ r ≡ 2 ^ ones (now (self .entry) .space .pivots) ⌝ }
+    {
+        1 << self.dimension()
+    }
+
     // The row with its pivot at a position; 0 where there is none.
     pub fn row_at(&self, p: usize) -> u64
         ensures { λ r. ⌜ r ≡ rowOfTable (now (self .entry) .space .rows) p ⌝ }
