@@ -24,4 +24,5 @@ pub mod Over
 pub mod Summing
 pub mod Eliminate
 pub mod Adding
+pub mod Same
 pub mod Distinct

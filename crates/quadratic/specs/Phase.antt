@@ -26,3 +26,7 @@ phaseIn None y = None
 -- the strings in both spaces, each with the phase of s less that of t
 abbrev pub Meets : Option PhasedSpace → PhasedSpace → PhasedSpace → Type 0
 Meets r s t = (y : ℕ) → phaseIn r y ≡ less (phase s y) (phase t y)
+
+-- the same strings with the same phases
+abbrev pub SamePhases : PhasedSpace → PhasedSpace → Type 0
+SamePhases s t = (y : ℕ) → phase s y ≡ phase t y

@@ -2,11 +2,12 @@ ghost use mathlib.Core.Path.{_≡_};
 ghost use Prim.Native.Nat.{ℕ, _+_, _*_, _%_, _^_, _<_, _≤_};
 ghost use lib.Bits.{bitAnd, bitXor};
 ghost use lib.Count.{ones};
+ghost use lib.Dec.{T};
 ghost use Rattle.quadratic.specs.Bits.{bit as digit};
 ghost use Rattle.quadratic.specs.Building.{Begun, RowAdded, Reshifted, LinearAdded, Coupled};
 ghost use Rattle.quadratic.specs.Fields.{rowOf, linearOf, couplingOf, linearAt, couplingAt};
 ghost use Rattle.quadratic.specs.Numbering.{spread};
-ghost use Rattle.quadratic.specs.Phase.{phase as phaseOf, Meets};
+ghost use Rattle.quadratic.specs.Phase.{phase as phaseOf, Meets, SamePhases};
 ghost use Rattle.quadratic.specs.Strings.{Member};
 ghost use Rattle.quadratic.specs.Echelon.{row as rowOfTable};
 ghost use Rattle.quadratic.specs.Value.{valueAt, Sees};
@@ -188,8 +189,13 @@ impl PhasedSpace {
 
     // Whether two spaces have the same strings with the same phases.
     pub fn same(&self, other: &PhasedSpace) -> bool
+        ensures sound { λ r. ⌜ (T r → SamePhases (now (self .entry)) (now (other .entry))) ⌝ }
+        ensures complete { λ r. ⌜ (SamePhases (now (self .entry)) (now (other .entry)) → T r) ⌝ }
     {
-        self.space.same(&other.space) && self.form.same(&other.form)
+        if !self.space.same(&other.space) {
+            return false;
+        }
+        self.form.same(&other.form)
     }
 
     // The form's value at the string numbered by c: row a is in it when bit a - 1 of c is 1.

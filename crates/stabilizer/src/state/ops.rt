@@ -5,6 +5,7 @@ ghost use lib.Dec.{T};
 ghost use lib.IntN.{ℤ, pos, negℤ};
 ghost use Rattle.cyclotomic.specs.Refusals.{answerOf};
 ghost use Rattle.quadratic.specs.Fields.{rowOf, linearOf, couplingOf};
+ghost use Rattle.stabilizer.specs.Overlaps.{depth as depthOf};
 ghost use Rattle.stabilizer.specs.States.{Opened, openNumber, Assembled, amplitudeNumber, AmplitudeAt};
 use super::StabilizerState;
 use cyclotomic::refusal::Refusal;
@@ -72,6 +73,14 @@ impl StabilizerState {
         self.loss
     }
 
+    // The weight without its sign and the dimension together: every amplitude that is not 0 has this power of √2 below it.
+    pub fn depth(&self) -> u64
+        ensures value { λ r. ⌜ r ≡ depthOf (now (self .entry)) ⌝ }
+        ensures bound { λ r. ⌜ r ≤ 4144 ⌝ }
+    {
+        self.loss + self.body.dimension()
+    }
+
     pub fn phase(&self) -> u64
         ensures { λ r. ⌜ r ≡ now (self .entry) .body .form .phase ⌝ }
     {
@@ -121,7 +130,7 @@ impl StabilizerState {
             return Err(Refusal::StringNumber);
         }
         match self.body.phase_at(string) {
-            Some(m) => Ok(Scalar::term(-(self.loss as i64) - self.dimension() as i64, m as u64)),
+            Some(m) => Ok(Scalar::term(-(self.depth() as i64), m as u64)),
             None => Ok(Scalar::zero()),
         }
     }
