@@ -54,3 +54,8 @@ amplitude s y = amplitudeOf s (phase (s .body) y)
 abbrev pub AmplitudeAt : Result Scalar Refusal → StabilizerState → ℕ → Type 0
 AmplitudeAt (Ok x) s y = tripleOf x ≡ amplitude s y
 AmplitudeAt (Err e) s y = Unit {0}
+
+-- as many qubits, and the same amplitude at every string
+pub record SameState (s t : StabilizerState) : Type 0 where
+  pub qubits : s .qubits ≡ t .qubits
+  pub amplitudes : (y : ℕ) → amplitude s y ≡ amplitude t y

@@ -6,7 +6,7 @@ ghost use lib.IntN.{ℤ, pos, negℤ};
 ghost use Rattle.cyclotomic.specs.Refusals.{answerOf};
 ghost use Rattle.quadratic.specs.Fields.{rowOf, linearOf, couplingOf};
 ghost use Rattle.stabilizer.specs.Overlaps.{depth as depthOf};
-ghost use Rattle.stabilizer.specs.States.{Opened, openNumber, Assembled, amplitudeNumber, AmplitudeAt};
+ghost use Rattle.stabilizer.specs.States.{Opened, openNumber, Assembled, amplitudeNumber, AmplitudeAt, SameState};
 use super::StabilizerState;
 use cyclotomic::refusal::Refusal;
 use cyclotomic::scalar::Scalar;
@@ -136,7 +136,16 @@ impl StabilizerState {
     }
 
     // Whether two states have the same number of qubits and the same amplitudes.
-    pub fn same(&self, other: &StabilizerState) -> bool {
-        self.qubits == other.qubits && self.loss == other.loss && self.body.same(&other.body)
+    pub fn same(&self, other: &StabilizerState) -> bool
+        ensures sound { λ r. ⌜ (T r → SameState (now (self .entry)) (now (other .entry))) ⌝ }
+        ensures complete { λ r. ⌜ (SameState (now (self .entry)) (now (other .entry)) → T r) ⌝ }
+    {
+        if self.qubits != other.qubits {
+            return false;
+        }
+        if self.loss != other.loss {
+            return false;
+        }
+        self.body.same(&other.body)
     }
 }
