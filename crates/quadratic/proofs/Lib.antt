@@ -25,4 +25,5 @@ pub mod Summing
 pub mod Eliminate
 pub mod Adding
 pub mod Same
+pub mod Closed
 pub mod Distinct

@@ -5,6 +5,8 @@ ghost use Rattle.quadratic.specs.Meets.{stringsIn};
 ghost use Rattle.quadratic.specs.Running.{addNumber, termIn};
 ghost use Rattle.quadratic.specs.Sums.{total as totalOf};
 use crate::intersection::Intersection;
+use crate::sum::exponential_sum;
+use cyclotomic::embedding::embed;
 use cyclotomic::embedding::power;
 use cyclotomic::refusal::Refusal;
 use cyclotomic::ring::Ring;
@@ -64,4 +66,14 @@ pub fn total<R: Ring>(x: &Intersection) -> RunningSum<R>
     let mut sum = RunningSum::new();
     while sum.add(x).is_ok() {}
     sum
+}
+
+// The same sum by its closed form: the scalar of the exponential sum, embedded in the ring.
+pub fn closed_form<R: Ring>(x: &Intersection) -> R
+    ensures { λ r. ⌜ value r ≡ totalOf ops (now (x .entry)) ⌝ }
+{
+    match embed(exponential_sum(x)) {
+        Ok(value) => value,
+        Err(_) => unreachable(),
+    }
 }
