@@ -1,0 +1,26 @@
+# make list       build the listing program and list a sample archive (ARCHIVE=FILE for another one)
+# make test       prove every crate from nothing, try the must-fail edits, run the programs and tests
+# make c-example  build the static library and a C program against it, and run it
+# make bench      time the listing and the overlap on generated archives
+RT ?= rt
+ARCHIVE ?= samples/pair.archive
+
+.PHONY: list test c-example bench clean
+
+list:
+	$(RT) check list
+	target/bin/list < $(ARCHIVE)
+
+test:
+	./.ci/run
+
+c-example:
+	$(RT) staticlib host
+	$(MAKE) -C examples/c RT=$(RT)
+	target/c/overlap
+
+bench:
+	bench/run.sh
+
+clean:
+	rm -rf target

@@ -1,0 +1,10 @@
+pub mod Bits
+pub mod Faults
+pub mod First
+pub mod Layout
+pub mod Archives
+pub mod Denials
+pub mod Held
+pub mod Coefficients
+pub mod Loads
+pub mod Writes
