@@ -1,19 +1,21 @@
 -- A state alone in a run of bytes.
 use mathlib.Core.Path.{_≡_, refl, sym, ap, _∙_}
 use mathlib.Core.List.{List, [], _∷_, _++_}
-use Prim.Native.Nat.{ℕ, zero, suc, _+_, _-_, _*_, _/_, _%_, _<_, _≤_}
+use Prim.Native.Nat.{ℕ, _+_, _-_, _*_, _%_, _<_}
 use native.Mathlib.Omega.{arith}
 use lib.ListN.{length}
+use Rattle.std.specs.declared.option.Option.{Option}
 use Rattle.std.specs.declared.option.Option.the-variants.{Some, None}
-use Rattle.std.proofs.shelf.Tests.{le-leb, lt-leb, cond-true, cond-false}
+use Rattle.std.proofs.shelf.Tests.{le-leb, lt-leb, leb-true, cond-true, cond-false}
 use Rattle.archive.specs.declared.fault.Field.the-variants.{Rest}
 use Rattle.archive.specs.declared.fault.Rule.the-variants.{NothingLeft}
 use Rattle.archive.specs.declared.fault.StateFault.{StateFault}
 use Rattle.archive.specs.declared.fault.StateFault.the-variants.{Broken}
-use Rattle.archive.specs.Bits.{bitsAt}
-use Rattle.archive.specs.Layout.{Part, after, header, rows, tail, linear, coupling, fill, copies}
+use Rattle.archive.specs.Layout.{Part, after, rows, tail, linear, coupling, fill, copies}
 use Rattle.archive.specs.Layout.{rest, partsAt, firstFault, stateFault, stateEnd, aloneVerdicts, aloneFault}
 use Rattle.archive.specs.Layout.{sizeAt, rankAt, pairs, bitCount}
+use Rattle.archive.proofs.First.{none-some}
+use Rattle.archive.proofs.Sound.{kept, there, unbroken}
 use Rattle.archive.proofs.Steps.{passes, stops, broken, fine, fault-none, after-rows, after-copies}
 
 after-joined : (p : ℕ) (xs ys : List Part) → after p (xs ++ ys) ≡ after (after p xs) ys
@@ -60,3 +62,15 @@ module _ (b : List ℕ) where
 pub end-whole : (b : List ℕ) (p : ℕ) → stateEnd b p % 8 ≡ 0
 unfolding stateEnd
 end-whole b p = omega arith
+
+-- bytes without a fault end where the state ends
+pub alone-end : (b : List ℕ) → aloneFault b ≡ None → (stateFault b 0 ≡ None) × (8 * length b ≡ stateEnd b 0)
+alone-end b e = go (stateFault b 0) refl where
+  go : (o : Option StateFault) → stateFault b 0 ≡ o → (stateFault b 0 ≡ None) × (8 * length b ≡ stateEnd b 0)
+  go (Some f) i = absurd (none-some f (sym e ∙ alone-bad b f i))
+  go None i =
+      let q = stateEnd b 0 in
+      let r = sym (at-rest b i q refl) ∙ e in
+      let h = there b q (rest b q) [] r in
+      let l = leb-true (8 * length b) q (kept _ _ (unbroken b q (rest b q) [] r)) in
+      (i, omega arith)

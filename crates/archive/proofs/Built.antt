@@ -1,10 +1,10 @@
 -- The parts of a state, one after another.
-use mathlib.Core.Path.{_≡_, refl, sym, ap, ap₂, subst, _∙_}
+use mathlib.Core.Path.{_≡_, refl, sym, ap, subst, _∙_}
 use mathlib.Core.Bool.{Bool, true, false}
-use mathlib.Core.Logic.{_⊎_, inl, inr, _≢_}
+use mathlib.Core.Logic.{inl, inr}
 use mathlib.Core.List.{List}
-use Prim.Native.Nat.{ℕ, zero, suc, _+_, _-_, _*_, _/_, _%_, _^_, _<_, _≤_}
-use native.Mathlib.Nat.{mul-zero, zero-mul, mod-eq-of-lt}
+use Prim.Native.Nat.{ℕ, _+_, _-_, _*_, _%_, _^_, _<_, _≤_}
+use native.Mathlib.Nat.{mul-zero, zero-mul}
 use native.Mathlib.Omega.{arith}
 use lib.Bits.{bitAnd}
 use lib.Count.{ones}
@@ -15,18 +15,16 @@ use Rattle.std.proofs.shelf.Tests.{cases-lt, cases-eq}
 use Rattle.quadratic.specs.Bits.{bit}
 use Rattle.quadratic.specs.Fields.{linearAt}
 use Rattle.quadratic.specs.Quadratic.{coef, link}
-use Rattle.quadratic.specs.Value.{valueAt}
 use Rattle.quadratic.specs.Building.{Begun, Reshifted}
-use Rattle.quadratic.specs.declared.form.QuadraticForm.{QuadraticForm}
 use Rattle.quadratic.specs.declared.phased.PhasedSpace.{PhasedSpace}
-use Rattle.quadratic.proofs.Algebra.{cancel8}
 use Rattle.quadratic.proofs.Bitlaws.{bit-lt, bit-and, bit-zero, bit-low, bit-past}
 use Rattle.quadratic.proofs.Dots.{by-bits}
 use Rattle.stabilizer.specs.States.{Sound as Parts}
 use Rattle.stabilizer.specs.declared.state.StabilizerState.{StabilizerState}
 use Rattle.archive.specs.Bits.{bitsAt}
 use Rattle.archive.specs.Layout.{sizeAt, rankAt, rowAt, lead}
-use Rattle.archive.specs.Held.{Sound, Raised, OnPivots, LinearUpTo, CouplingUpTo, Spans, Weighs, Holds, shiftPlace}
+use Rattle.archive.specs.Held.{Sound, Spans, Weighs, Holds, shiftPlace}
+use Rattle.archive.specs.Reading.{Raised, OnPivots, LinearUpTo, CouplingUpTo}
 use Rattle.archive.proofs.Laws.{bits-below}
 use Rattle.archive.proofs.Coefficients.{value-one, value-two, coef-low, link-low}
 use Rattle.archive.proofs.Leads.{row-lead, order, off-at}

@@ -1,19 +1,19 @@
 -- Fields that keep their rules have no fault.
-use mathlib.Core.Path.{_≡_, refl, sym, ap, ap₂, subst, _∙_}
-use mathlib.Core.Bool.{Bool, true, false, cond, _&&_}
-use mathlib.Core.List.{List, [], _∷_, _++_}
-use Prim.Native.Nat.{ℕ, zero, suc, _+_, _-_, _*_, _/_, _%_, _^_, _<_, _≤_}
-use native.Mathlib.Nat.{add-mul, one-mul, suc-mul, zero-mul, add-zero}
+use mathlib.Core.Path.{_≡_, refl, sym, ap, _∙_}
+use mathlib.Core.Bool.{true, _&&_}
+use mathlib.Core.List.{List, []}
+use Prim.Native.Nat.{ℕ, zero, suc, _+_, _-_, _*_, _≤_}
+use native.Mathlib.Nat.{add-mul, one-mul, suc-mul}
 use native.Mathlib.Omega.{arith}
 use lib.Dec.{leb}
 use lib.ListN.{length}
-use Rattle.std.specs.declared.option.Option.the-variants.{Some, None}
+use Rattle.std.specs.declared.option.Option.the-variants.{None}
 use Rattle.std.proofs.shelf.Tests.{le-leb, and-from, cond-true}
 use Rattle.archive.specs.declared.fault.Field.{Field}
 use Rattle.archive.specs.Bits.{bitsAt}
 use Rattle.archive.specs.Layout.{qubits, dimension, weight, phase, header, row, rows, shift, free}
-use Rattle.archive.specs.Layout.{linear, coupling, fill, copies, sizeAt, rankAt, rowAt}
-use Rattle.archive.specs.Layout.{inOrder, offLeads, pairs, bitCount, padded, padding, firstFault, stateFault}
+use Rattle.archive.specs.Layout.{fill, copies, sizeAt, rankAt, rowAt}
+use Rattle.archive.specs.Layout.{pairs, bitCount, firstFault, stateFault}
 use Rattle.archive.specs.Held.{Sound}
 use Rattle.archive.proofs.Sound.{rows-there}
 use Rattle.archive.proofs.Steps.{fine, fault-none}

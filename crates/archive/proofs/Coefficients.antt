@@ -1,9 +1,9 @@
 -- The coefficients of a form, from its values at strings with at most two bits.
 use mathlib.Core.Path.{_≡_, refl, sym, ap, ap₂, _∙_}
 use mathlib.Core.Bool.{Bool, true, false}
-use mathlib.Core.Logic.{_⊎_, inl, inr, _≢_}
-use Prim.Native.Nat.{ℕ, zero, suc, _+_, _-_, _*_, _/_, _%_, _^_, _<_, _≤_}
-use native.Mathlib.Nat.{zero-mul, mul-zero, one-mul, mul-one, add-zero, zero-add, mod-eq-of-lt, mul-add, add-mul, pow-suc}
+use mathlib.Core.Logic.{inl, inr}
+use Prim.Native.Nat.{ℕ, zero, suc, _+_, _-_, _*_, _/_, _%_, _^_, _<_}
+use native.Mathlib.Nat.{zero-mul, mul-zero, one-mul, add-zero, zero-add, mod-eq-of-lt, mul-add, add-mul, pow-suc}
 use native.Mathlib.Omega.{arith}
 use lib.ListN.{getD}
 use lib.Pow.{pow-lt}

@@ -1,8 +1,8 @@
 -- When a state of an archive is denied.
 use mathlib.Core.Path.{_≡_, refl, sym, ap, _∙_}
-use mathlib.Core.Bool.{Bool, true, false, _&&_}
+use mathlib.Core.Bool.{true, false, _&&_}
 use mathlib.Core.List.{List}
-use Prim.Native.Nat.{ℕ, zero, suc, _+_, _-_, _<_, _≤_}
+use Prim.Native.Nat.{ℕ, _+_, _-_, _<_, _≤_}
 use native.Mathlib.Nat.{zero-add}
 use native.Mathlib.Omega.{arith}
 use lib.Dec.{leb}
@@ -14,7 +14,7 @@ use Rattle.cyclotomic.specs.declared.refusal.Refusal.the-variants.{Index}
 use Rattle.archive.specs.declared.fault.ArchiveFault.{ArchiveFault}
 use Rattle.archive.specs.declared.container.Denial.the-variants.{Fault, Refused}
 use Rattle.archive.specs.First.{orElse}
-use Rattle.archive.specs.Archives.{countOf, statesFault, restVerdict, placeAfter, archiveFault}
+use Rattle.archive.specs.Archives.{countOf, statesFault, archiveFault}
 use Rattle.archive.specs.Denials.{denial, denied}
 use Rattle.archive.proofs.First.{none-some}
 use Rattle.archive.proofs.States.{states-rest, states-split}

@@ -1,8 +1,8 @@
 -- The set bits of a mask, from the top.
-use mathlib.Core.Path.{_≡_, refl, sym, ap, ap₂, _∙_}
-use mathlib.Core.Logic.{_⊎_, inl, inr, _≢_}
+use mathlib.Core.Path.{_≡_, sym, ap, _∙_}
+use mathlib.Core.Logic.{inl, inr}
 use mathlib.Core.List.{List}
-use Prim.Native.Nat.{ℕ, zero, suc, _+_, _-_, _*_, _/_, _%_, _^_, _<_, _≤_}
+use Prim.Native.Nat.{ℕ, zero, _+_, _-_, _/_, _%_, _^_, _<_, _≤_}
 use native.Mathlib.Nat.{add-zero, add-comm}
 use native.Mathlib.Omega.{arith}
 use borrow.Author.Count.{below-more}
@@ -10,7 +10,7 @@ use lib.Count.{ones, ones-step}
 use lib.ListN.{length, getD, set, length-set}
 use lib.Pow.{shr-shr}
 use lib.Seq.{getD-set-same, getD-set-other}
-use Rattle.std.proofs.shelf.Tests.{cases-lt, cases-eq}
+use Rattle.std.proofs.shelf.Tests.{cases-eq}
 use Rattle.quadratic.specs.Bits.{bit}
 use Rattle.quadratic.proofs.Bitlaws.{bit-lt}
 use Rattle.archive.specs.Writes.{Falling}

@@ -2,7 +2,7 @@
 use mathlib.Core.Path.{_≡_, refl, sym, ap, _∙_}
 use mathlib.Core.List.{List}
 use Prim.Native.Nat.{ℕ, zero, suc, _+_, _-_, _*_, _/_, _%_, _^_, _<_, _≤_}
-use native.Mathlib.Nat.{add-zero, zero-add, add-suc, mul-one, add-assoc, mul-assoc, add-mul, pow-suc}
+use native.Mathlib.Nat.{add-zero, zero-add, add-suc, add-assoc, mul-assoc, pow-suc}
 use native.Mathlib.Numerals.{add-one}
 use native.Mathlib.Omega.{arith}
 use lib.ListN.{length, getD, take, length-take}
@@ -10,8 +10,8 @@ use mathlib.Core.Logic.{inl, inr}
 use Rattle.std.proofs.shelf.Lists.{getD-past}
 use Rattle.std.proofs.shelf.Tests.{cases-lt}
 use lib.Seq.{ext-getD, getD-take}
-use lib.Pow.{pow-pos, pow-mono, high, low, shr-shr, mod-pow-add}
-use Rattle.std.proofs.shelf.Bits.{mod-below, one-shl}
+use lib.Pow.{pow-mono, high, shr-shr, mod-pow-add}
+use Rattle.std.proofs.shelf.Bits.{one-shl}
 use Rattle.archive.specs.Bits.{bitAt, bitsAt}
 
 pub bit-below : (b : List ℕ) (i : ℕ) → bitAt b i < 2
@@ -98,14 +98,6 @@ byte-bits b i h =
     let q : 8 * i / 8 ≡ i = omega arith in
     let e = bits-chunk b (8 * i) 8 (omega arith) in
     e ∙ rw (r, q) (omega arith)
-
--- the number that one bit more makes fits a word
-pub next-fits : (b : List ℕ) (p w : ℕ) → w < 64 → bitsAt b p w * 2 + bitAt b (p + w) < 2 ^ 64
-next-fits b p w h =
-    let l = bits-below b p (w + 1) in
-    let k : w + 1 ≤ 64 = omega arith in
-    let m : 2 ^ (w + 1) ≤ 2 ^ 64 = pow-mono k in
-    let e = bits-more b p w in omega arith
 
 -- lists of bytes of one length with the same bits are equal
 pub bytes-same : (b d : List ℕ) → length b ≡ length d → ((i : ℕ) → getD b i 0 < 256) → ((i : ℕ) → getD d i 0 < 256)

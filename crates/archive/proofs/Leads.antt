@@ -1,19 +1,18 @@
 -- The lead of a number, and the leads of rows in order.
-use mathlib.Core.Path.{_≡_, refl, sym, ap, ap₂, subst, _∙_}
-use mathlib.Core.Bool.{Bool, true, false, _&&_}
-use mathlib.Core.Logic.{_⊎_, inl, inr, _≢_}
+use mathlib.Core.Path.{_≡_, sym, ap, _∙_}
+use mathlib.Core.Bool.{true}
+use mathlib.Core.Logic.{inl, inr}
 use mathlib.Core.List.{List}
 use Prim.Native.Nat.{ℕ, zero, suc, _+_, _-_, _*_, _/_, _%_, _^_, _<_, _≤_}
 use native.Mathlib.Nat.{pow-suc}
 use native.Mathlib.Omega.{arith}
 use lib.Dec.{ltb, eqb}
-use lib.Count.{leadingZeros, leading-top}
-use lib.Pow.{pow-mono, high}
+use lib.Count.{leading-top}
+use lib.Pow.{pow-mono}
 use Rattle.std.proofs.shelf.Tests.{cases-lt, cases-eq, and-parts, ltb-true, eqb-true}
 use Rattle.quadratic.specs.Bits.{bit}
-use Rattle.quadratic.proofs.Bitlaws.{bit-past, bit-top, bit-lt}
-use Rattle.archive.specs.Bits.{bitsAt}
-use Rattle.archive.specs.Layout.{rowAt, lead, descends, apart, inOrder, offLeads}
+use Rattle.quadratic.proofs.Bitlaws.{bit-past, bit-top}
+use Rattle.archive.specs.Layout.{rowAt, lead, descends, apart, offLeads}
 use Rattle.archive.specs.Held.{Sound}
 use Rattle.archive.proofs.Laws.{bits-below}
 

@@ -20,3 +20,4 @@ pub mod Clean
 pub mod Written
 pub mod Kept
 pub mod OneState
+pub mod OneRun

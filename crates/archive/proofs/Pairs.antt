@@ -1,6 +1,6 @@
 -- Pairs of rows, counted.
-use mathlib.Core.Path.{_≡_, refl, sym, ap, ap₂, _∙_}
-use Prim.Native.Nat.{ℕ, zero, suc, _+_, _-_, _*_, _/_, _<_, _≤_}
+use mathlib.Core.Path.{_≡_, refl, ap, _∙_}
+use Prim.Native.Nat.{ℕ, zero, suc, _+_, _-_, _<_, _≤_}
 use native.Mathlib.Nat.{sub-zero, zero-add, suc-mul, mul-suc}
 use native.Mathlib.Omega.{arith}
 use mathlib.Core.Logic.{inl, inr}

@@ -1,29 +1,29 @@
 -- One row more in the space.
-use mathlib.Core.Path.{_≡_, refl, sym, ap, ap₂, subst, _∙_}
-use mathlib.Core.Logic.{_⊎_, inl, inr, _≢_}
+use mathlib.Core.Path.{_≡_, sym, ap, ap₂, subst, _∙_}
+use mathlib.Core.Logic.{inl, inr}
 use mathlib.Core.List.{List}
-use Prim.Native.Nat.{ℕ, zero, suc, _+_, _-_, _*_, _/_, _%_, _^_, _<_, _≤_}
+use Prim.Native.Nat.{ℕ, suc, _+_, _-_, _*_, _/_, _%_, _^_, _<_, _≤_}
 use native.Mathlib.Nat.{zero-mul, one-mul, add-zero, zero-mod}
 use native.Mathlib.Omega.{arith}
 use borrow.Author.Count.{below-more}
 use lib.Bits.{bitXor, xor-zero-l, xor-zero-r, xor-shifted}
 use lib.Count.{ones, ones-cat}
-use lib.ListN.{length, getD, set, length-set}
+use lib.ListN.{length, set, length-set}
 use lib.Pow.{pow-pos, pow-lt}
 use lib.Seq.{getD-set-same, getD-set-other}
 use Rattle.std.specs.declared.option.Option.the-variants.{Some, None}
 use Rattle.std.proofs.shelf.Bits.{shr-split}
-use Rattle.std.proofs.shelf.Tests.{cases-lt, cases-eq}
+use Rattle.std.proofs.shelf.Tests.{cases-eq}
 use Rattle.quadratic.specs.Bits.{bit}
 use Rattle.quadratic.specs.Echelon.{row}
-use Rattle.quadratic.specs.Strings.{Fitting, Appended}
+use Rattle.quadratic.specs.Strings.{Fitting}
 use Rattle.quadratic.specs.Building.{RowAdded}
 use Rattle.quadratic.specs.declared.affine.AffineSpace.{AffineSpace}
 use Rattle.quadratic.specs.declared.phased.PhasedSpace.{PhasedSpace}
 use Rattle.quadratic.proofs.Bitlaws.{bit-lt, bit-xor, bit-zero, bit-pow, bit-pow-other, same-low, ones-digit}
-use Rattle.archive.specs.Bits.{bitsAt}
 use Rattle.archive.specs.Layout.{rowAt, lead}
-use Rattle.archive.specs.Held.{Sound, Raised, Listed}
+use Rattle.archive.specs.Held.{Sound}
+use Rattle.archive.specs.Reading.{Raised, Listed}
 use Rattle.archive.proofs.Leads.{lead-on, lead-most, lead-only, row-pos, row-low, row-lead, row-apart, order}
 
 -- one set bit more below all others
@@ -34,10 +34,11 @@ ones-under x p h =
     let whole : x ≡ a * 2 ^ suc p = sym (shr-split x (suc p)) ∙ ap (λ r. a * 2 ^ suc p + r) none ∙ add-zero (a * 2 ^ suc p) in
     let less : 2 ^ p < 2 ^ suc p = pow-lt (omega arith) in
     let one : ones (2 ^ p) ≡ 1 = ap ones (sym (one-mul (2 ^ p)) ∙ sym (add-zero (1 * 2 ^ p))) ∙ ones-cat p 1 0 (pow-pos p)
-        ∙ ap₂ _+_ (ones-digit 1 (omega arith)) (ones-digit 0 (omega arith)) in
+    ∙ ap₂ _+_ (ones-digit 1 (omega arith)) (ones-digit 0 (omega arith)) in
     let old : ones x ≡ ones a = ap ones (whole ∙ sym (add-zero (a * 2 ^ suc p))) ∙ ones-cat (suc p) a 0 (pow-pos (suc p))
-        ∙ ap (λ i. ones a + i) (ones-digit 0 (omega arith)) ∙ add-zero (ones a) in
-    ap (λ y. ones (bitXor y (2 ^ p))) whole ∙ ap ones (xor-shifted a (suc p) (2 ^ p) less) ∙ ones-cat (suc p) a (2 ^ p) less ∙ ap₂ _+_ (sym old) one
+    ∙ ap (λ i. ones a + i) (ones-digit 0 (omega arith)) ∙ add-zero (ones a) in
+    ap (λ y. ones (bitXor y (2 ^ p))) whole ∙ ap ones (xor-shifted a (suc p) (2 ^ p) less) ∙ ones-cat (suc p) a (2 ^ p) less
+    ∙ ap₂ _+_ (sym old) one
   where
     zero-bit : (i : ℕ) → i ≤ p → bit x i ≡ 0
     zero-bit i l = elim (cases-eq (bit x i) 0) [ inl z ↦ z | inr z ↦ let g = h i (omega (arith, bit-lt x i)) in absurd (omega arith) ]
@@ -101,7 +102,8 @@ module _ (b : List ℕ) (p n k : ℕ) (good : Sound b p n k) (a : ℕ) (l : a < 
 
     pub raised : Raised b p n (a + 1) s′
     raised = record {
-      count = ap ones (h .0 .1 ∙ ap (λ i. bitXor (s .space .pivots) (2 ^ i)) same-lead) ∙ ones-under (s .space .pivots) (lead v) off-pivot ∙ ap (λ i. i + 1) (w .count);
+      count = ap ones (h .0 .1 ∙ ap (λ i. bitXor (s .space .pivots) (2 ^ i)) same-lead)
+          ∙ ones-under (s .space .pivots) (lead v) off-pivot ∙ ap (λ i. i + 1) (w .count);
       pivots = new-pivot;
       rows = below-more _ _
           (λ j i. let o = order b p n k good a l j i in
@@ -124,7 +126,8 @@ module _ (b : List ℕ) (p n k : ℕ) (good : Sound b p n k) (a : ℕ) (l : a < 
 
 -- the leads of the rows are pivots
 pub on-pivots : (b : List ℕ) (p n k : ℕ) → Sound b p n k → (s : AffineSpace)
-    → ((j : ℕ) → j < k → row (s .rows) (lead (rowAt b p n j)) ≡ rowAt b p n j) → (j : ℕ) → j < k → bit (s .pivots) (lead (rowAt b p n j)) ≡ 1
+    → ((j : ℕ) → j < k → row (s .rows) (lead (rowAt b p n j)) ≡ rowAt b p n j) → (j : ℕ) → j < k
+    → bit (s .pivots) (lead (rowAt b p n j)) ≡ 1
 on-pivots b p n k good s rows j l =
     let q = lead (rowAt b p n j) in
     elim (cases-eq (bit (s .pivots) q) 0) [

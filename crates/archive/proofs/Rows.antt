@@ -1,27 +1,26 @@
 -- The rows of a state, one after another.
 use mathlib.Core.Path.{_≡_, refl, sym, ap, ap₂, _∙_}
-use mathlib.Core.Bool.{Bool, true, false, cond, _&&_}
+use mathlib.Core.Bool.{Bool, true, false, _&&_}
 use mathlib.Core.Logic.{_⊎_, inl, inr}
-use mathlib.Core.List.{List, [], _∷_, _++_}
+use mathlib.Core.List.{List, _∷_}
 use Prim.Native.Nat.{ℕ, zero, suc, _+_, _-_, _*_, _/_, _%_, _^_, _<_, _≤_, min, max}
 use native.Mathlib.Nat.{add-mul, one-mul, zero-mul, suc-mul, pow-suc}
 use native.Mathlib.Numerals.{add-one, one-add}
 use native.Mathlib.Omega.{arith}
 use lib.Dec.{ltb, eqb}
 use lib.Bits.{bitAnd, bitOr, or-shr, or-mod, and-shr, and-mod, or-add-and, and-le-l}
-use lib.Bits.{and-le-r, and-zero-l, or-comm, and-step, or-step, and-high}
+use lib.Bits.{and-le-r, or-comm, and-step, or-step, and-high}
 use lib.Pow.{pow-pos}
 use lib.ListN.{length}
-use Rattle.std.specs.declared.option.Option.the-variants.{Some, None}
+use Rattle.std.specs.declared.option.Option.the-variants.{Some}
 use Rattle.std.proofs.shelf.Ways.{tells}
 use Rattle.std.proofs.shelf.Tests.{cases-eq, cond-true, cond-false}
 use Rattle.archive.specs.declared.fault.Field.the-variants.{Row}
 use Rattle.archive.specs.declared.fault.Rule.the-variants.{EchelonForm}
-use Rattle.archive.specs.declared.fault.StateFault.{StateFault}
-use Rattle.archive.specs.declared.fault.StateFault.the-variants.{Bits, Broken}
+use Rattle.archive.specs.declared.fault.StateFault.the-variants.{Broken}
 use Rattle.archive.specs.Bits.{bitsAt}
 use Rattle.archive.specs.Layout.{rowAt, lead, descends, apart, offLeads, row, rows, unless, firstFault}
-use Rattle.archive.proofs.Steps.{cut, broken, fine}
+use Rattle.archive.proofs.Steps.{broken, fine}
 
 two : (x : ℕ) → (x % 2 ≡ 0) ⊎ (x % 2 ≡ 1)
 two x = elim (cases-eq (x % 2) 0) [ inl e ↦ inl e | inr e ↦ inr (omega arith) ]

@@ -1,29 +1,28 @@
 -- What the fields of a state without a fault keep.
-use mathlib.Core.Path.{_≡_, refl, sym, ap, ap₂, subst, _∙_}
-use mathlib.Core.Bool.{Bool, true, false, cond, _&&_}
-use mathlib.Core.Logic.{_⊎_, inl, inr}
+use mathlib.Core.Path.{_≡_, refl, sym, ap, _∙_}
+use mathlib.Core.Bool.{Bool, true, false, _&&_}
+use mathlib.Core.Logic.{inl, inr}
 use mathlib.Core.List.{List, [], _∷_, _++_}
-use Prim.Native.Nat.{ℕ, zero, suc, _+_, _-_, _*_, _/_, _%_, _^_, _<_, _≤_}
+use Prim.Native.Nat.{ℕ, zero, suc, _+_, _-_, _*_, _<_, _≤_}
 use native.Mathlib.Nat.{zero-mul, one-mul, add-zero, add-mul, suc-mul, mul-le-mul-right}
 use native.Mathlib.Omega.{arith}
-use lib.Dec.{ltb, leb, eqb}
+use lib.Dec.{leb}
 use lib.ListN.{length}
 use Rattle.std.specs.declared.option.Option.{Option}
 use Rattle.std.specs.declared.option.Option.the-variants.{Some, None}
 use Rattle.std.proofs.shelf.Bits.{mul-le}
 use Rattle.std.proofs.shelf.Tests.{cases-lt, cases-eq, and-parts, leb-true}
 use Rattle.archive.specs.declared.fault.Rule.{Rule}
-use Rattle.archive.specs.declared.fault.StateFault.{StateFault}
 use Rattle.archive.specs.Bits.{bitsAt}
-use Rattle.archive.specs.Layout.{Part, unless, header, rows, row, shift, linear, coupling, fill, copies, tail, sizeAt, rankAt, rowAt, lead}
-use Rattle.archive.specs.Layout.{inOrder, offLeads, pairs, bitCount, padded, padding, partsAt, firstFault, stateFault, stateEnd}
+use Rattle.archive.specs.Layout.{Part, unless, rows, row, shift, linear, coupling, fill, copies, tail, sizeAt, rankAt, rowAt}
+use Rattle.archive.specs.Layout.{inOrder, pairs, bitCount, padding, partsAt, firstFault, stateFault}
 use Rattle.archive.specs.Held.{Sound, couplingPlace}
 use Rattle.archive.proofs.First.{none-some}
 use Rattle.archive.proofs.Pairs.{pairs-within}
 use Rattle.archive.proofs.Steps.{cut, broken, fine}
 use Rattle.archive.proofs.Whole.{few, few-pairs}
 
-kept : (t : Bool) (r : Rule) → unless t r ≡ None → t ≡ true
+pub kept : (t : Bool) (r : Rule) → unless t r ≡ None → t ≡ true
 kept true r e = refl
 kept false r e = absurd (none-some r (sym e))
 
@@ -97,7 +96,8 @@ sound b p e₀ =
     let e₉ = later-copies b (p + 28 + k * n + n + k * 2) (pairs k) coupling _ e₈ in
     let end : p + 28 + k * n + n + k * 2 + pairs k * 1 ≡ p + bitCount n k = omega arith in
     let e₁₀ = ap (λ t. firstFault b t (fill (p + bitCount n k) ∷ [])) (sym end) ∙ e₉ in
-    let zeros = in-range 0 0 (bitsAt b (p + bitCount n k) (padding (p + bitCount n k))) (kept _ _ (unbroken b (p + bitCount n k) (fill (p + bitCount n k)) [] e₁₀)) in
+    let zeros = in-range 0 0 (bitsAt b (p + bitCount n k) (padding (p + bitCount n k)))
+    (kept _ _ (unbroken b (p + bitCount n k) (fill (p + bitCount n k)) [] e₁₀)) in
     let size = in-range 1 48 n (kept _ _ (unbroken b p _ _ e₀)) in
     let rank = in-range 0 n k (kept _ _ (unbroken b (p + 6) _ _ e₁)) in
     let at₂ : p + 6 + 6 ≡ p + 12 = omega arith in

@@ -1,8 +1,7 @@
 -- The states of an archive, one after another, and what follows them.
 use mathlib.Core.Path.{_≡_, refl, sym, ap, ap₂, _∙_}
-use mathlib.Core.Bool.{cond}
 use mathlib.Core.List.{List, [], _∷_, _++_, map, append-assoc}
-use Prim.Native.Nat.{ℕ, zero, suc, _+_, _-_, _*_, _%_, _<_, _≤_}
+use Prim.Native.Nat.{ℕ, zero, suc, _+_, _-_, _%_, _<_, _≤_}
 use native.Mathlib.Nat.{add-zero, zero-add, suc-add}
 use native.Mathlib.Numerals.{add-one}
 use native.Mathlib.Omega.{arith}
@@ -14,7 +13,7 @@ use Rattle.std.proofs.shelf.Tests.{lt-ltb, le-ltb, cond-true, cond-false}
 use Rattle.archive.specs.declared.fault.Field.the-variants.{Count}
 use Rattle.archive.specs.declared.fault.StateFault.{StateFault}
 use Rattle.archive.specs.declared.fault.ArchiveFault.{ArchiveFault}
-use Rattle.archive.specs.declared.fault.ArchiveFault.the-variants.{State, Short, Overfull, LeftOver}
+use Rattle.archive.specs.declared.fault.ArchiveFault.the-variants.{State, Short, Overfull}
 use Rattle.archive.specs.First.{first, orElse}
 use Rattle.archive.specs.Layout.{verdicts, partsAt, firstFault, stateFault, stateEnd}
 use Rattle.archive.specs.Archives.{countOf, placeAfter, carried, statesVerdicts, statesFault, restVerdict, archiveVerdicts, archiveFault}

@@ -1,12 +1,11 @@
 -- One coefficient more.
-use mathlib.Core.Path.{_≡_, refl, sym, ap, ap₂, _∙_}
-use mathlib.Core.Logic.{_⊎_, inl, inr, _≢_}
+use mathlib.Core.Path.{_≡_, sym, ap, ap₂, _∙_}
+use mathlib.Core.Logic.{inl, inr, _≢_}
 use mathlib.Core.List.{List}
-use Prim.Native.Nat.{ℕ, zero, suc, _+_, _-_, _*_, _/_, _%_, _^_, _<_, _≤_}
-use native.Mathlib.Nat.{zero-mul, mul-zero, mul-one, one-mul, add-zero, zero-add, mod-eq-of-lt}
+use Prim.Native.Nat.{ℕ, _+_, _-_, _*_, _%_, _^_, _<_}
+use native.Mathlib.Nat.{zero-mul, mul-zero, mul-one, add-zero, zero-add, mod-eq-of-lt}
 use native.Mathlib.Omega.{arith}
 use borrow.Author.Count.{below-more}
-use lib.ListN.{length, getD}
 use Rattle.std.proofs.shelf.Tests.{cases-lt, cases-eq}
 use Rattle.quadratic.specs.Bits.{bit}
 use Rattle.quadratic.specs.Fields.{linearAt}
@@ -15,7 +14,8 @@ use Rattle.quadratic.specs.declared.phased.PhasedSpace.{PhasedSpace}
 use Rattle.quadratic.proofs.Bitlaws.{bit-pow, bit-pow-other}
 use Rattle.archive.specs.Bits.{bitsAt}
 use Rattle.archive.specs.Layout.{rowAt, lead}
-use Rattle.archive.specs.Held.{Sound, LinearUpTo, Linked, RowUpTo, CouplingUpTo, linkAt, linearPlace, couplingPlace}
+use Rattle.archive.specs.Held.{Sound, linearPlace, couplingPlace}
+use Rattle.archive.specs.Reading.{LinearUpTo, RowUpTo, CouplingUpTo, linkAt}
 use Rattle.archive.specs.Coefficients.{LinearGrown, CouplingGrown}
 use Rattle.archive.proofs.Coefficients.{coef-low, link-low}
 use Rattle.archive.proofs.Leads.{row-lead, order}

@@ -1,11 +1,10 @@
 -- What is left to check of a state, part by part.
-use mathlib.Core.Path.{_≡_, refl, sym, ap, ap₂, _∙_}
+use mathlib.Core.Path.{_≡_, refl, sym, ap₂, _∙_}
 use mathlib.Core.List.{List, [], _∷_, _++_}
-use Prim.Native.Nat.{ℕ, _+_, _-_, _*_, _/_, _%_, _^_, _≤_}
+use Prim.Native.Nat.{ℕ, _+_, _-_, _*_, _/_, _≤_}
 use native.Mathlib.Omega.{arith}
 use Rattle.std.specs.declared.option.Option.the-variants.{None}
 use Rattle.std.proofs.shelf.Bits.{mul-le}
-use Rattle.archive.specs.Bits.{bitsAt}
 use Rattle.archive.specs.Layout.{header, rows, shift, linear, coupling, fill, copies, tail, layout, sizeAt, rankAt, pairs, bitCount}
 use Rattle.archive.specs.Layout.{padded, partsAt, firstFault, stateFault, stateEnd}
 use Rattle.archive.proofs.Steps.{passes, after-rows, after-copies}

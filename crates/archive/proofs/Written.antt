@@ -1,28 +1,26 @@
 -- The bits of a written state.
 use mathlib.Core.Path.{_≡_, refl, sym, ap, ap₂, subst, _∙_}
-use mathlib.Core.Bool.{Bool, true, false, cond, _&&_}
-use mathlib.Core.Logic.{_⊎_, inl, inr, _≢_}
+use mathlib.Core.Bool.{true}
+use mathlib.Core.Logic.{inl, inr, _≢_}
 use mathlib.Core.List.{List}
-use Prim.Native.Nat.{ℕ, zero, suc, _+_, _-_, _*_, _/_, _%_, _^_, _<_, _≤_}
+use Prim.Native.Nat.{ℕ, zero, suc, _+_, _-_, _*_, _^_, _<_, _≤_}
 use native.Mathlib.Nat.{mul-one, zero-add}
 use native.Mathlib.Omega.{arith}
-use lib.Bits.{bitAnd}
 use lib.Count.{ones, ones-le}
-use lib.Dec.{ltb, eqb}
 use lib.ListN.{length, getD, take}
 use lib.Pow.{pow-mono}
 use lib.Seq.{length-take-le}
-use Rattle.std.specs.declared.option.Option.the-variants.{Some, None}
+use Rattle.std.specs.declared.option.Option.the-variants.{None}
 use Rattle.std.proofs.shelf.Tests.{cases-eq, cases-lt, lt-ltb, eq-eqb, and-from}
 use Rattle.quadratic.specs.Bits.{bit}
 use Rattle.quadratic.specs.Echelon.{row}
 use Rattle.quadratic.specs.Fields.{linearAt, couplingAt}
 use Rattle.quadratic.specs.declared.affine.AffineSpace.{AffineSpace}
 use Rattle.quadratic.specs.declared.phased.PhasedSpace.{PhasedSpace}
-use Rattle.quadratic.proofs.Bitlaws.{bit-lt, bit-and, bit-zero, bit-past, bit-pow, bit-pow-other}
+use Rattle.quadratic.proofs.Bitlaws.{bit-and, bit-zero, bit-past, bit-pow, bit-pow-other}
 use Rattle.stabilizer.specs.declared.state.StabilizerState.{StabilizerState}
 use Rattle.archive.specs.Bits.{bitsAt, Framed}
-use Rattle.archive.specs.Layout.{rowAt, lead, apart, descends, inOrder, offLeads, bitCount, padded, padding, stateFault, aloneFault}
+use Rattle.archive.specs.Layout.{rowAt, lead, apart, descends, offLeads, bitCount, padded, padding, aloneFault}
 use Rattle.archive.specs.Held.{Sound, Spans, Weighs, Holds}
 use Rattle.archive.specs.Writes.{Falling, HeaderPut, RowsPut, FormPut}
 use Rattle.archive.proofs.Alone.{alone-good}

@@ -5,6 +5,7 @@ pub mod Layout
 pub mod Archives
 pub mod Denials
 pub mod Held
+pub mod Reading
 pub mod Coefficients
 pub mod Loads
 pub mod Writes

@@ -1,7 +1,7 @@
 -- What writing a state does to a buffer.
 use mathlib.Core.Path.{_≡_}
 use mathlib.Core.List.{List}
-use Prim.Native.Nat.{ℕ, zero, suc, _+_, _-_, _*_, _/_, _<_, _≤_, _^_}
+use Prim.Native.Nat.{ℕ, _+_, _*_, _/_, _<_}
 use lib.Count.{ones}
 use lib.ListN.{length, getD}
 use Rattle.quadratic.specs.Bits.{bit}

@@ -1,7 +1,7 @@
 // The bits of a run of bytes, the most significant bit of a byte first.
 ghost use mathlib.Core.Path.{_≡_};
 ghost use Prim.Native.Nat.{ℕ, _+_, _-_, _*_, _/_, _%_, _^_, _<_, _≤_};
-ghost use lib.ListN.{length, getD};
+ghost use lib.ListN.{length};
 ghost use Rattle.std.specs.Results.{Cases};
 ghost use Rattle.archive.specs.Bits.{bitAt, bitsAt, Framed};
 use crate::fault::BitsFault;

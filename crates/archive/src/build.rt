@@ -1,15 +1,15 @@
 // The state that stands in bits without a fault.
 ghost use mathlib.Core.Path.{_≡_};
-ghost use Prim.Native.Nat.{ℕ, suc, _+_, _-_, _*_, _%_, _^_, _<_, _≤_};
-ghost use lib.ListN.{length, getD};
+ghost use Prim.Native.Nat.{suc, _+_, _-_, _*_, _^_, _<_, _≤_};
 ghost use Rattle.std.specs.declared.option.Option.the-variants.{None};
 ghost use Rattle.quadratic.specs.Building.{Begun};
-ghost use Rattle.archive.specs.Bits.{bitsAt};
-ghost use Rattle.archive.specs.Layout.{sizeAt, rankAt, rowAt, lead, stateFault};
+ghost use Rattle.archive.specs.Layout.{stateFault};
 ghost use Rattle.quadratic.specs.Bits.{bit};
 ghost use Rattle.archive.specs.Coefficients.{LinearGrown, CouplingGrown};
-ghost use Rattle.archive.specs.Held.{Sound, Raised, Listed, OnPivots, LinearUpTo, RowUpTo};
-ghost use Rattle.archive.specs.Held.{CouplingUpTo, Spans, Weighs, Holds, couplingPlace};
+ghost use Rattle.archive.specs.Held.{Sound};
+ghost use Rattle.archive.specs.Reading.{Raised, Listed, OnPivots, LinearUpTo, RowUpTo};
+ghost use Rattle.archive.specs.Held.{Spans, Weighs, Holds, couplingPlace};
+ghost use Rattle.archive.specs.Reading.{CouplingUpTo};
 use crate::bits::bits_at;
 use quadratic::phased::PhasedSpace;
 use stabilizer::state::StabilizerState;

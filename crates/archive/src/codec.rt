@@ -1,13 +1,15 @@
 // A state alone in a run of bytes: reading and writing.
 ghost use mathlib.Core.Path.{_≡_};
-ghost use Prim.Native.Nat.{ℕ, _+_, _*_, _^_, _<_, _≤_};
+ghost use Prim.Native.Nat.{ℕ, _*_, _<_, _≤_};
 ghost use lib.ListN.{length, getD, take};
+ghost use Rattle.std.specs.Options.{Cases as BySome};
 ghost use Rattle.std.specs.Results.{Cases};
 ghost use Rattle.std.specs.declared.option.Option.the-variants.{Some, None};
 ghost use Rattle.archive.specs.First.{Faultless, First};
 ghost use Rattle.archive.specs.Layout.{aloneVerdicts, aloneFault, stateFault};
 ghost use Rattle.archive.specs.Held.{Holds};
 ghost use Rattle.archive.specs.Writes.{lengthOf};
+ghost use Rattle.stabilizer.specs.States.{SameState};
 ghost use Rattle.cyclotomic.specs.declared.refusal.Refusal.the-variants.{Buffer};
 use crate::build::build;
 use crate::fault::Field;
@@ -68,4 +70,39 @@ pub fn write(state: &StabilizerState, buffer: &mut [u8]) -> Result<usize, Refusa
     }
     put_fields(buffer, n, k, state.loss(), &leads, state.body());
     Ok(length)
+}
+
+// Writes a state and reads it again: what is read is the same state.
+pub fn reread(
+    state: &StabilizerState,
+    copy: &mut StabilizerState,
+    buffer: &mut [u8],
+) -> Result<usize, Refusal>
+    ensures { λ r. ⌜ Cases r (λ _. SameState (now (copy .exit)) (now (state .entry))) (λ _. now (copy .exit) ≡ now (copy .entry)) ⌝ }
+{
+    match write(state, buffer) {
+        Ok(length) => match read(copy, &buffer[0..length]) {
+            Ok(()) => Ok(length),
+            Err(_) => unreachable(),
+        },
+        Err(refusal) => Err(refusal),
+    }
+}
+
+// Reads a state and writes it again: what is written are the same bytes. None where the buffer is shorter than these.
+pub fn rewrite(
+    state: &mut StabilizerState,
+    bytes: &[u8],
+    buffer: &mut [u8],
+) -> Result<Option<usize>, StateFault>
+    ensures { λ r. ⌜ Cases r (λ o. BySome o (length (now (buffer .entry)) < length (now (bytes .entry)))
+        (λ m. take m (now (buffer .exit)) ≡ now (bytes .entry))) (λ f. aloneFault (now (bytes .entry)) ≡ Some f) ⌝ }
+{
+    match read(state, bytes) {
+        Ok(()) => match write(state, buffer) {
+            Ok(length) => Ok(Some(length)),
+            Err(_) => Ok(None),
+        },
+        Err(fault) => Err(fault),
+    }
 }

@@ -1,8 +1,7 @@
 // Archives: a count byte, and as many states, each from a byte's start.
 ghost use mathlib.Core.Path.{_≡_};
-ghost use mathlib.Core.List.{[], _∷_};
-ghost use Prim.Native.Nat.{ℕ, _+_, _-_, _*_, _/_, _%_, _^_, _<_, _≤_};
-ghost use lib.ListN.{length, getD, take, drop};
+ghost use Prim.Native.Nat.{_+_, _-_, _*_, _/_, _^_, _<_, _≤_};
+ghost use lib.ListN.{length, take};
 ghost use Rattle.std.specs.Results.{Cases};
 ghost use Rattle.std.specs.declared.option.Option.the-variants.{Some, None};
 ghost use Rattle.archive.specs.First.{Faultless, First};
@@ -26,6 +25,9 @@ use cyclotomic::refusal::RefusalDebug;
 use cyclotomic::refusal::RefusalEq;
 use cyclotomic::refusal::RefusalPartialEq;
 use stabilizer::state::StabilizerState;
+
+// How many states an archive may have.
+const MOST_STATES: usize = 100;
 
 // Why a state of an archive was denied: the archive's fault, or else a refusal.
 #[derive(Clone, Copy, Debug, PartialEq, Eq)]
@@ -71,7 +73,7 @@ pub(crate) fn counted(archive: &[u8]) -> Result<usize, ArchiveFault>
         }));
     };
     let count = usize::from(*count);
-    if count > 100 {
+    if count > MOST_STATES {
         return Err(ArchiveFault::Overfull);
     }
     let end = skip(archive, 8, 0, count)?;

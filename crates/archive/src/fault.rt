@@ -1,6 +1,5 @@
 // What can be wrong with the bytes of a state or of an archive, in three layers.
 ghost use mathlib.Core.Path.{_≡_};
-ghost use Prim.Native.Nat.{ℕ};
 ghost use Rattle.archive.specs.declared.fault.StateFault.the-variants.{Bits};
 ghost use Rattle.archive.specs.declared.fault.ArchiveFault.the-variants.{State, Short};
 ghost use Rattle.archive.specs.Faults.{fieldNumber, ruleNumber, numbered, bitsReport, stateReport, archiveReport};

@@ -3,7 +3,6 @@ ghost use mathlib.Core.Path.{_≡_};
 ghost use Prim.Native.Nat.{ℕ, suc, _+_, _-_, _*_, _/_, _^_, _<_, _≤_};
 ghost use lib.Count.{ones};
 ghost use lib.ListN.{length, getD};
-ghost use Rattle.quadratic.specs.Bits.{bit};
 ghost use Rattle.quadratic.specs.Echelon.{row};
 ghost use Rattle.quadratic.specs.Fields.{linearAt};
 ghost use Rattle.quadratic.specs.Quadratic.{link};

@@ -8,14 +8,14 @@ use lib.Count.{ones}
 use lib.ListN.{getD}
 use Rattle.cyclotomic.specs.Adjoin.{omegas}
 use Rattle.cyclotomic.specs.CommFacts
-use Rattle.cyclotomic.specs.Ring.{wpow, rpow, exact}
+use Rattle.cyclotomic.specs.Ring.{Ops, CommLaws, wpow, rpow, exact}
 use Rattle.cyclotomic.specs.Sum.{sum-to}
 use Rattle.cyclotomic.proofs.Ints.{omega-laws}
 use Rattle.cyclotomic.proofs.Sums
 use Rattle.quadratic.specs.Bits.{bit, dot}
 use Rattle.quadratic.specs.Quadratic.{coef, link}
 use Rattle.quadratic.specs.Numbering.{spread}
-use Rattle.quadratic.specs.Sums.{leftOf, total, Reduced, Stepped}
+use Rattle.quadratic.specs.Sums.{over, formPower, leftOf, total, Reduced, Stepped}
 use Rattle.quadratic.specs.Value.{valueAt}
 use Rattle.quadratic.specs.declared.form.QuadraticForm.{QuadraticForm}
 use Rattle.quadratic.specs.declared.intersection.Intersection.the-variants.{Space}
@@ -118,10 +118,13 @@ pub ended : (f : QuadraticForm) (live power : ℕ) → live ≡ 0 → leftOf ome
 ended f live power z =
     ap (λ m. leftOf omegas f m power) z ∙ ap (omegas .times (rpow omegas power)) (over-none (omega-laws .comm) _ 48 0 ∙ ap (wpow omegas) (value-zero f))
 
--- the sum over all strings, by their numbers
-pub numbered : (s : PhasedSpace) → leftOf omegas (s .form) (s .space .pivots) 0 ≡ total omegas (Space s)
-numbered s =
+-- the sum over all strings, by their numbers, in any ring
+pub over-total : {R : Type 0} {o : Ops R} (laws : CommLaws o) (s : PhasedSpace) → over o (formPower o (s .form)) (s .space .pivots) 48 0 ≡ total o (Space s)
+over-total {o = o} laws s =
     let P = s .space .pivots in
-    CommFacts.one-times (omega-laws .comm) _ ∙ over-numbered (omega-laws .comm) (λ c. wpow omegas (valueAt (s .form) c)) P 48 0
-    ∙ ap (sum-to omegas _) (ap (λ n. 2 ^ n) (sym (ones-low 48 P) ∙ ap ones (mod-eq-of-lt (s .space .within))))
-    ∙ Sums.sum-same (omega-laws .comm) _ _ (2 ^ ones P) (λ c l. ap (λ x. wpow omegas (valueAt (s .form) x)) (xor-zero-l (spread 48 P c)))
+    over-numbered laws (formPower o (s .form)) P 48 0
+    ∙ ap (sum-to o _) (ap (λ n. 2 ^ n) (sym (ones-low 48 P) ∙ ap ones (mod-eq-of-lt (s .space .within))))
+    ∙ Sums.sum-same laws _ _ (2 ^ ones P) (λ c l. ap (formPower o (s .form)) (xor-zero-l (spread 48 P c)))
+
+pub numbered : (s : PhasedSpace) → leftOf omegas (s .form) (s .space .pivots) 0 ≡ total omegas (Space s)
+numbered s = CommFacts.one-times (omega-laws .comm) _ ∙ over-total (omega-laws .comm) s

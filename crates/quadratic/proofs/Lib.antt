@@ -23,7 +23,6 @@ pub mod Meet
 pub mod Over
 pub mod Summing
 pub mod Eliminate
-pub mod Adding
 pub mod Same
 pub mod Closed
 pub mod Distinct

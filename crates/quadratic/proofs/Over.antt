@@ -171,6 +171,13 @@ module _ {R : Type 0} {o : Ops R} (laws : CommLaws o) where
             ]
       ]
 
+  -- with a variable off, and with it on
+  pub over-split : (f : ℕ → R) (mask a n c : ℕ) → bit mask a ≡ 1 → a < n
+      → over o f mask n c ≡ over o f (bitXor mask (2 ^ a)) n c ⊕ over o f (bitXor mask (2 ^ a)) n (bitXor c (2 ^ a))
+  over-split f mask a n c on l =
+      over-out f mask a n c on l ∙ over-plus f (λ x. f (bitXor x (2 ^ a))) (bitXor mask (2 ^ a)) n c
+      ∙ ap (_⊕_ (over o f (bitXor mask (2 ^ a)) n c)) (over-shift f (2 ^ a) (bitXor mask (2 ^ a)) n c)
+
   -- even and odd numbers
   sum-pairs : (f : ℕ → R) (m : ℕ) → sum-to o f (m + m) ≡ sum-to o (λ c. f (c + c) ⊕ f (suc (c + c))) m
   sum-pairs f zero = refl

@@ -10,3 +10,4 @@ pub mod Building
 pub mod Meets
 pub mod Sums
 pub mod Running
+pub mod Table

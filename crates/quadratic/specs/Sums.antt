@@ -41,9 +41,13 @@ unfoldable pub over : {R : Type 0} → Ops R → (ℕ → R) → ℕ → ℕ →
 over o f mask zero c = f c
 over o f mask (suc n) c = cond (eqb (bit mask n) 1) (o .plus (over o f mask n c) (over o f mask n (bitXor c (2 ^ n)))) (over o f mask n c)
 
+-- w to the power of a form's value
+abbrev pub formPower : {R : Type 0} → Ops R → QuadraticForm → ℕ → R
+formPower o f c = wpow o (valueAt f c)
+
 -- the root of 2 to a power times the sum over the live variables
 abbrev pub leftOf : {R : Type 0} → Ops R → QuadraticForm → ℕ → ℕ → R
-leftOf o f live power = o .times (rpow o power) (over o (λ c. wpow o (valueAt f c)) live 48 0)
+leftOf o f live power = o .times (rpow o power) (over o (formPower o f) live 48 0)
 
 -- the sum stays as it was while `gone` variables go and the power rises by `more`
 pub record Reduced (f f′ : QuadraticForm) (live live′ power power′ gone more : ℕ) : Type 0 where

@@ -1,9 +1,15 @@
 ghost use mathlib.Core.Path.{_≡_};
-ghost use Prim.Native.Nat.{ℕ, _+_, _<_};
+ghost use Prim.Native.Nat.{ℕ, _+_, _^_, _<_};
 ghost use Rattle.cyclotomic.specs.Refusals.{answerOf};
 ghost use Rattle.quadratic.specs.Meets.{stringsIn};
 ghost use Rattle.quadratic.specs.Running.{addNumber, termIn};
-ghost use Rattle.quadratic.specs.Sums.{total as totalOf};
+ghost use Rattle.quadratic.specs.Table.{PowersOf};
+ghost use Rattle.cyclotomic.specs.Ring.{wpow};
+ghost use Rattle.quadratic.specs.Sums.{total as totalOf, over, formPower};
+ghost use Rattle.quadratic.specs.Value.{valueAt};
+use crate::bits::lowest;
+use crate::bits::turned;
+use crate::form::QuadraticForm;
 use crate::intersection::Intersection;
 use crate::sum::exponential_sum;
 use cyclotomic::embedding::embed;
@@ -63,9 +69,72 @@ pub fn total<R: Ring>(x: &Intersection) -> RunningSum<R>
     ensures value { λ r. ⌜ value (r .value) ≡ totalOf ops (now (x .entry)) ⌝ }
     ensures count { λ r. ⌜ r .count ≡ stringsIn (now (x .entry)) ⌝ }
 {
-    let mut sum = RunningSum::new();
-    while sum.add(x).is_ok() {}
-    sum
+    let Intersection::Space(s) = x else {
+        return RunningSum::new();
+    };
+    let form = s.form();
+    let value = branch(&form, &Powers::new(), s.pivots(), 0, form.value(0));
+    RunningSum { value, count: s.strings() }
+}
+
+// The first eight powers of omega.
+#[derive(Clone, Copy)]
+struct Powers<R> {
+    p0: R,
+    p1: R,
+    p2: R,
+    p3: R,
+    p4: R,
+    p5: R,
+    p6: R,
+    p7: R,
+}
+
+impl<R: Ring> Powers<R> {
+    fn new() -> Powers<R>
+        ensures { λ r. ⌜ PowersOf ops value r ⌝ }
+    {
+        let p1 = R::omega();
+        let p2 = p1.times(p1);
+        let p3 = p1.times(p2);
+        let p4 = p1.times(p3);
+        let p5 = p1.times(p4);
+        let p6 = p1.times(p5);
+        Powers { p0: R::one(), p1, p2, p3, p4, p5, p6, p7: p1.times(p6) }
+    }
+
+    fn at(&self, m: u8) -> R
+        requires { ⌜ PowersOf ops value (now self) ⌝ ∗ ⌜ m < 8 ⌝ }
+        ensures { λ r. ⌜ value r ≡ wpow ops m ⌝ }
+    {
+        match m {
+            0 => self.p0,
+            1 => self.p1,
+            2 => self.p2,
+            3 => self.p3,
+            4 => self.p4,
+            5 => self.p5,
+            6 => self.p6,
+            _ => self.p7,
+        }
+    }
+}
+
+// The sum of omega^value over c and what comes of it by turning over bits of the mask; `phase` is the value at c.
+fn branch<R: Ring>(form: &QuadraticForm, table: &Powers<R>, mask: u64, c: u64, phase: u8) -> R
+    requires inside { ⌜ mask < 2 ^ 48 ⌝ }
+    requires small { ⌜ phase < 8 ⌝ }
+    requires here { ⌜ phase ≡ valueAt (now form) c ⌝ }
+    requires table { ⌜ PowersOf ops value (now table) ⌝ }
+    ensures { λ r. ⌜ value r ≡ over ops (formPower ops (now (form .entry))) mask 48 c ⌝ }
+{
+    if mask == 0 {
+        return table.at(phase);
+    }
+    let a = lowest(mask);
+    let rest = turned(mask, a);
+    let there = (phase + form.slope(a, c)) % 8;
+    branch(form, table, rest, c, phase).plus(branch(form, table, rest, turned(c, a), there))
 }
 
 // The same sum by its closed form: the scalar of the exponential sum, embedded in the ring.

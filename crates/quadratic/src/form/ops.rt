@@ -173,6 +173,16 @@ impl QuadraticForm {
         true
     }
 
+    // What the value gains where variable a of the point c is turned over.
+    pub(crate) fn slope(&self, a: usize, c: u64) -> u8
+        requires { ⌜ a < 48 ⌝ }
+        ensures value { λ r. ⌜ valueAt (now (self .entry)) (bitXor c (2 ^ a)) ≡ (valueAt (now (self .entry)) c + r) % 8 ⌝ }
+        ensures bound { λ r. ⌜ r ≤ 10 ⌝ }
+    {
+        let own = 2 * bit(self.odd, a) + 4 * bit(self.neg, a);
+        (own + 4 * dot(self.coupling[a], c)) as u8
+    }
+
     // Makes the form independent of variable a, by setting that variable to 0.
     pub(crate) fn clear(&mut self, a: usize)
         requires { ⌜ a < 48 ⌝ }

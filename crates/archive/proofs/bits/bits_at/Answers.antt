@@ -1,9 +1,8 @@
-use mathlib.Core.Path.{_≡_, refl, sym, ap, _∙_}
+use mathlib.Core.Path.{_≡_, sym}
 use mathlib.Core.List.{List}
-use Prim.Native.Nat.{ℕ, _+_, _-_, _*_, _/_, _%_, _^_, _≤_, _<_}
+use Prim.Native.Nat.{ℕ, _+_, _-_, _*_, _/_, _%_, _^_, _≤_}
 use native.Mathlib.Omega.{arith}
 use lib.ListN.{getD}
-use mir.Facts.{fits-of-lt}
 use Rattle.archive.specs.Bits.{bitsAt}
 use Rattle.archive.proofs.Laws.{bits-none, bits-step, step-fits}
 use Rattle.archive.proofs.bits.bits_at.Needs as need

@@ -1,10 +1,9 @@
 use mathlib.Core.Path.{_≡_, refl, sym, ap, _∙_}
 use mathlib.Core.List.{List}
-use Prim.Native.Nat.{ℕ, _+_, _-_, _*_, _/_, _%_, _^_, _<_, _≤_}
+use Prim.Native.Nat.{ℕ, _+_, _-_, _/_, _%_, _^_, _<_}
 use native.Mathlib.Nat.{div-eq-of-lt, sub-zero}
 use native.Mathlib.Omega.{arith}
 use lib.Pow.{shr-shr}
-use lib.ListN.{length}
 use Rattle.archive.specs.Bits.{bitAt, bitsAt}
 use Rattle.archive.proofs.Laws.{bits-none, bits-more, bits-same}
 use Rattle.archive.proofs.bits.put_bits.Needs as need

@@ -1,5 +1,4 @@
-use mathlib.Core.Path.{_≡_, refl, sym, ap}
-use Prim.Native.Nat.{ℕ}
+use mathlib.Core.Path.{_≡_, refl}
 use native.Mathlib.Omega.{arith}
 use Rattle.archive.proofs.Coefficients.{coupling-granted, coupling-grown, nothing-grown}
 use Rattle.archive.proofs.build.add_coupling.Needs as need

@@ -1,7 +1,4 @@
-use mathlib.Core.Path.{_≡_, refl, sym, ap, subst, _∙_}
-use Prim.Native.Nat.{ℕ, _+_, _*_, _≤_}
 use native.Mathlib.Omega.{arith}
-use Rattle.archive.specs.Layout.{sizeAt, rankAt}
 use Rattle.archive.proofs.Sound.{sound, sound-at}
 use Rattle.archive.proofs.Built.{parts-sound, held}
 use Rattle.archive.proofs.build.build.Needs as need

@@ -1,9 +1,10 @@
-use mathlib.Core.Path.{_≡_, refl, sym, ap, ap₂, subst, _∙_}
-use Prim.Native.Nat.{ℕ, suc, _+_, _-_, _*_, _^_, _<_, _≤_}
+use mathlib.Core.Path.{_≡_, ap, ap₂, subst, _∙_}
+use Prim.Native.Nat.{ℕ, suc, _+_, _-_, _<_}
 use native.Mathlib.Omega.{arith}
 use Rattle.quadratic.specs.Bits.{bit}
 use Rattle.archive.specs.Bits.{bitsAt}
-use Rattle.archive.specs.Held.{RowUpTo, couplingPlace}
+use Rattle.archive.specs.Held.{couplingPlace}
+use Rattle.archive.specs.Reading.{RowUpTo}
 use Rattle.archive.proofs.Laws.{bits-below}
 use Rattle.archive.proofs.Leads.{order}
 use Rattle.archive.proofs.Sound.{couplings-there}

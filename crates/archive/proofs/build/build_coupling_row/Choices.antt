@@ -1,4 +1,4 @@
-use Rattle.archive.specs.Held.{RowUpTo}
+use Rattle.archive.specs.Reading.{RowUpTo}
 use Rattle.archive.proofs.build.build_coupling_row.Given as given
 
 abbrev pub Inv-loop-c : given.InvT-loop-c

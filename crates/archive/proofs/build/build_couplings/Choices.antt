@@ -1,4 +1,4 @@
-use Rattle.archive.specs.Held.{CouplingUpTo}
+use Rattle.archive.specs.Reading.{CouplingUpTo}
 use Rattle.archive.proofs.build.build_couplings.Given as given
 
 abbrev pub Inv-loop-a : given.InvT-loop-a

@@ -1,4 +1,4 @@
-use Rattle.archive.specs.Held.{LinearUpTo}
+use Rattle.archive.specs.Reading.{LinearUpTo}
 use Rattle.archive.proofs.build.build_linear.Given as given
 
 abbrev pub Inv-loop-a : given.InvT-loop-a

@@ -1,5 +1,5 @@
 use mathlib.Core.Path.{_≡_}
-use Rattle.archive.specs.Held.{Raised, Listed}
+use Rattle.archive.specs.Reading.{Raised, Listed}
 use Rattle.archive.proofs.build.build_rows.Given as given
 
 abbrev pub Inv-loop-a : given.InvT-loop-a

@@ -1,10 +1,9 @@
-use mathlib.Core.Path.{_≡_, refl, sym, ap, ap₂, _∙_}
+use mathlib.Core.Path.{_≡_, sym, ap, _∙_}
 use mathlib.Core.List.{List}
-use Prim.Native.Nat.{ℕ, _+_, _*_, _/_, _%_, _<_, _≤_}
+use Prim.Native.Nat.{ℕ, _+_, _*_, _<_, _≤_}
 use native.Mathlib.Nat.{zero-add}
 use native.Mathlib.Omega.{arith}
 use borrow.Author.Needs.{needs}
-use lib.Dec.{ltb}
 use lib.ListN.{length}
 use Rattle.std.specs.declared.option.Option.{Option}
 use Rattle.std.specs.declared.option.Option.the-variants.{Some, None}
@@ -38,8 +37,8 @@ module _ (b : List ℕ) (n : ℕ) (en : n ≡ countOf b) (l : 0 < length b) (h :
 pub returns-in-rest : need.returns-in-rest
 returns-in-rest c = no-count (c .args .archive .now) (search needs) ∙ ap Some (sym (c .from .ensures))
 
-pub returns-then-count-gt100 : need.returns-then-count-gt100
-returns-then-count-gt100 c = high-count (c .args .archive .now) (search needs) (omega arith)
+pub returns-then-count-gt-MOST-STATES : need.returns-then-count-gt-MOST-STATES
+returns-then-count-gt-MOST-STATES c = high-count (c .args .archive .now) (search needs) (omega arith)
 
 pub skip-requires : need.skip-requires
 skip-requires c κs =

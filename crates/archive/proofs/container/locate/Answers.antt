@@ -1,13 +1,10 @@
-use mathlib.Core.Path.{_≡_, refl, sym, ap, _∙_}
-use mathlib.Core.Bool.{true, false, _&&_}
-use Prim.Native.Nat.{ℕ, _+_, _-_, _*_, _/_, _≤_}
+use mathlib.Core.Path.{_≡_, sym, ap, _∙_}
+use Prim.Native.Nat.{_+_, _-_}
 use native.Mathlib.Nat.{zero-add}
 use native.Mathlib.Omega.{arith}
-use lib.Dec.{leb}
-use Rattle.std.specs.declared.option.Option.the-variants.{Some, None}
 use Rattle.std.proofs.shelf.Results.{err-from-errBy}
 use Rattle.std.proofs.shelf.Ways.{tells}
-use Rattle.archive.specs.Archives.{countOf, placeAfter}
+use Rattle.archive.specs.Archives.{placeAfter}
 use Rattle.archive.proofs.First.{none-some}
 use Rattle.archive.proofs.States.{first-place, whole-bytes, place-rises, state-good}
 use Rattle.archive.proofs.Denials.{by-fault, by-number, by-none, states-good}

@@ -1,12 +1,10 @@
 use mathlib.Core.Path.{_≡_, refl, sym, ap, _∙_}
 use mathlib.Core.List.{List, [], _∷_}
-use Prim.Native.Nat.{ℕ, _+_, _*_, _≤_}
+use Prim.Native.Nat.{ℕ, _+_}
 use native.Mathlib.Omega.{arith}
-use lib.ListN.{length}
 use Rattle.std.specs.declared.option.Option.the-variants.{Some, None}
 use Rattle.std.proofs.shelf.Results.{err-from-errBy}
 use Rattle.archive.specs.declared.fault.StateFault.the-variants.{Bits}
-use Rattle.archive.specs.Bits.{bitsAt}
 use Rattle.archive.specs.Layout.{qubits, dimension, weight, phase, header, sizeAt, firstFault}
 use Rattle.archive.proofs.Steps.{cut, fine, fault-none, passes, stops}
 use Rattle.archive.proofs.layout.header.Needs as need

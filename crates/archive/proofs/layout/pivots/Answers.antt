@@ -1,11 +1,9 @@
 use mathlib.Core.Path.{_≡_, refl, sym, ap, _∙_}
 use mathlib.Core.Bool.{Bool, true, false, cond}
-use mathlib.Core.List.{List, []}
-use Prim.Native.Nat.{ℕ, _+_, _-_, _*_, _/_, _%_, _^_, _<_, _≤_}
+use Prim.Native.Nat.{ℕ, _+_, _-_, _*_, _^_, _<_, _≤_}
 use native.Mathlib.Nat.{sub-zero, sub-self, zero-div}
 use native.Mathlib.Omega.{arith}
-use lib.Bits.{bitOr, and-zero-r}
-use Rattle.std.specs.declared.option.Option.{Option}
+use lib.Bits.{and-zero-r}
 use Rattle.std.specs.declared.option.Option.the-variants.{Some, None}
 use Rattle.std.proofs.shelf.Bits.{mul-le, one-shl}
 use Rattle.std.proofs.shelf.Results.{err-from-errBy}
@@ -13,7 +11,7 @@ use Rattle.std.proofs.shelf.Tests.{lt-ltb}
 use Rattle.archive.specs.declared.fault.StateFault.the-variants.{Bits}
 use Rattle.archive.specs.Layout.{lead, row, rows, offLeads, firstFault}
 use Rattle.archive.proofs.Steps.{cut, fault-none}
-use Rattle.archive.proofs.Rows.{Sofar, Good, next-row, row-broken, row-more}
+use Rattle.archive.proofs.Rows.{Good, next-row, row-broken, row-more}
 use Rattle.archive.proofs.layout.pivots.Needs as need
 
 -- what the answer of `pivot_of` says of a test

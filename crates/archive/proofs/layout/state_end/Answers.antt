@@ -1,12 +1,12 @@
-use mathlib.Core.Path.{_≡_, refl, sym, ap, ap₂, _∙_}
-use mathlib.Core.List.{List, [], _∷_, _++_}
-use Prim.Native.Nat.{ℕ, _+_, _-_, _*_, _/_, _≤_}
+use mathlib.Core.Path.{_≡_, sym, ap, ap₂, _∙_}
+use mathlib.Core.List.{List, [], _∷_}
+use Prim.Native.Nat.{ℕ, _+_, _-_, _*_, _/_}
 use native.Mathlib.Omega.{arith}
-use Rattle.std.specs.declared.option.Option.the-variants.{Some, None}
+use Rattle.std.specs.declared.option.Option.the-variants.{None}
 use Rattle.std.proofs.shelf.Results.{err-from-errBy}
-use Rattle.archive.specs.Layout.{header, rows, shift, linear, coupling, fill, copies, tail, sizeAt}
-use Rattle.archive.specs.Layout.{rankAt, pairs, bitCount, padded, padding, firstFault, stateFault, partsAt}
-use Rattle.archive.proofs.Steps.{stops, fault-none}
+use Rattle.archive.specs.Layout.{header, rows, shift, linear, coupling, fill, copies, sizeAt}
+use Rattle.archive.specs.Layout.{rankAt, pairs, bitCount, padded, firstFault, stateFault, partsAt}
+use Rattle.archive.proofs.Steps.{stops}
 use Rattle.archive.proofs.Whole.{few, few-pairs, end-is, after-header, after-all-rows, after-shift, after-linear, after-coupling}
 use Rattle.archive.proofs.layout.state_end.Needs as need
 

@@ -1,6 +1,5 @@
-use borrow.Author.Needs.{needs}
-use mathlib.Core.Path.{_≡_, refl, sym, ap}
-use Prim.Native.Nat.{ℕ, _*_, _/_}
+use mathlib.Core.Path.{ap}
+use Prim.Native.Nat.{_*_, _/_}
 use native.Mathlib.Omega.{arith}
 use Rattle.archive.proofs.Whole.{few, few-pairs}
 use Rattle.archive.proofs.put.bit_count.Needs as need

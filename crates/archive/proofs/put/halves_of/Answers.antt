@@ -1,8 +1,7 @@
-use mathlib.Core.Path.{_≡_, sym, ap, _∙_}
+use mathlib.Core.Path.{_≡_, _∙_}
 use Prim.Native.Nat.{ℕ, _*_, _/_, _<_}
 use native.Mathlib.Omega.{arith}
-use lib.ListN.{length, getD, length-set}
-use Rattle.quadratic.specs.Bits.{bit}
+use lib.ListN.{getD, length-set}
 use Rattle.quadratic.specs.Fields.{linearAt}
 use Rattle.quadratic.proofs.Bitlaws.{bit-lt}
 use Rattle.quadratic.specs.declared.phased.PhasedSpace.{PhasedSpace}

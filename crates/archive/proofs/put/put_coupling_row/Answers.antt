@@ -1,11 +1,10 @@
-use mathlib.Core.Path.{_≡_, refl, sym, ap, ap₂, subst, _∙_}
-use Prim.Native.Nat.{ℕ, suc, _+_, _-_, _*_, _<_, _≤_}
+use mathlib.Core.Path.{_≡_, refl, sym, ap, subst, _∙_}
+use Prim.Native.Nat.{ℕ, suc, _+_, _-_, _*_, _<_}
 use native.Mathlib.Nat.{mul-one}
 use native.Mathlib.Omega.{arith}
 use Rattle.archive.specs.Bits.{bitsAt, Framed}
-use Rattle.archive.specs.Held.{couplingPlace, pairsBefore}
-use Rattle.archive.specs.Layout.{pairs}
-use Rattle.archive.proofs.Pairs.{pairs-split, pairs-rise}
+use Rattle.archive.specs.Held.{couplingPlace}
+use Rattle.archive.proofs.Pairs.{pairs-split}
 use Rattle.archive.proofs.Whole.{few, few-pairs}
 use Rattle.archive.proofs.put.put_coupling_row.Needs as need
 

@@ -1,4 +1,4 @@
-use mathlib.Core.Path.{_≡_, _∙_}
+use mathlib.Core.Path.{_∙_}
 use native.Mathlib.Omega.{arith}
 use Rattle.archive.proofs.Frames.{keep-before, both}
 use Rattle.archive.proofs.put.put_header.Needs as need

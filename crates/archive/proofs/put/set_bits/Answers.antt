@@ -1,11 +1,11 @@
-use mathlib.Core.Path.{_≡_, refl, sym, ap, _∙_}
-use Prim.Native.Nat.{ℕ, _-_, _/_, _%_, _^_}
+use mathlib.Core.Path.{refl, ap, _∙_}
+use Prim.Native.Nat.{_-_, _^_}
 use native.Mathlib.Nat.{div-eq-of-lt}
 use native.Mathlib.Omega.{arith}
 use lib.Count.{ones}
 use Rattle.quadratic.specs.Bits.{bit}
 use Rattle.quadratic.proofs.Bitlaws.{bit-past, ones-digit}
-use Rattle.archive.proofs.Falling.{more, falling}
+use Rattle.archive.proofs.Falling.{more}
 use Rattle.archive.proofs.put.set_bits.Needs as need
 
 pub loop-p-holds : need.loop-p-holds
