@@ -1,11 +1,12 @@
 # make list       build the listing program and list a sample archive (ARCHIVE=FILE for another one)
 # make test       prove every crate from nothing, try the must-fail edits, run the programs and tests
+# make edits      try the edits that the gate leaves out: each must be refused
 # make c-example  build the static library and a C program against it, and run it
 # make bench      time the listing and the overlap on generated archives
 RT ?= rt
 ARCHIVE ?= samples/pair.archive
 
-.PHONY: list test c-example bench clean
+.PHONY: list test edits c-example bench clean
 
 list:
 	$(RT) check list
@@ -13,6 +14,9 @@ list:
 
 test:
 	./.ci/run
+
+edits:
+	edits/run.sh
 
 c-example:
 	$(RT) staticlib host

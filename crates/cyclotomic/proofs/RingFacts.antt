@@ -34,7 +34,7 @@ module _ {R : Type 0} {o : Ops R} (laws : RingLaws o) where
       ap (wpow o) e ∙ wpow-eight (8 * k + m) ∙ wpow-eights k m
 
   pub wpow-least : (m : ℕ) → wpow o m ≡ wpow o (m % 8)
-  wpow-least m = 
+  wpow-least m =
       let e : m ≡ 8 * (m / 8) + m % 8 = omega arith in
       ap (wpow o) e ∙ wpow-eights (m / 8) (m % 8)
 

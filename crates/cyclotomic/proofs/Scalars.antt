@@ -20,7 +20,7 @@ bar = conj Adjoin.ints
 
 infixl 65 _⊕_
 infixl 70 _⊗_
-open Ops omegas using (nil, plus as _⊕_, times as _⊗_) 
+open Ops omegas using (nil, plus as _⊕_, times as _⊗_)
 
 -- the number n in ℤ[w]
 num-is : (n : ℕ) → num omegas n .re .re ≡ pos n

@@ -99,12 +99,15 @@ module _ {R : Type 0} {o : Ops R} (laws : CommLaws o) where
     where
       left : (x y u : R) → (x ⊕ neg y) ⊕ (u ⊕ y) ≡ x ⊕ u
       left x y u = middle x (neg y) u y ∙ ap (_⊕_ (x ⊕ u)) (plus-comm _ _ ∙ plus-neg y) ∙ plus-nil (x ⊕ u)
+
       right : (z y u : R) → (z ⊕ neg u) ⊕ (u ⊕ y) ≡ z ⊕ y
       right z y u = ap (_⊕_ _) (plus-comm u y) ∙ left z u y
 
   -- every equation between sums of products
   pub ruleset ring = (times-plus, plus-times, times-assoc, times-comm, times-left-comm, plus-assoc, plus-comm, plus-left-comm)
+
   -- what nil and one take away
   pub ruleset units = (times-nil, nil-times, times-one, one-times, plus-nil, nil-plus)
+
   -- neg moves inwards in a sum and outwards in a product
   pub ruleset negs = (neg-nil, neg-neg, neg-plus, neg-times, times-neg)

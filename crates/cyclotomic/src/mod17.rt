@@ -36,16 +36,22 @@ pub impl Ring for Mod17 as Mod17Ring {
     }
 
     fn plus(self, other: Mod17) -> Mod17 {
-        Mod17 { residue: (self.residue + other.residue) % 17 }
+        Mod17 {
+            residue: (self.residue + other.residue) % 17,
+        }
     }
 
     fn negative(self) -> Mod17 {
-        Mod17 { residue: (17 - self.residue) % 17 }
+        Mod17 {
+            residue: (17 - self.residue) % 17,
+        }
     }
 
     fn times(self, other: Mod17) -> Mod17 {
         let product = self.residue as u16 * other.residue as u16;
-        Mod17 { residue: (product % 17) as u8 }
+        Mod17 {
+            residue: (product % 17) as u8,
+        }
     }
 
     fn equal(self, other: Mod17) -> bool {

@@ -27,15 +27,30 @@ pub impl Ring for Cyclotomic64 as Cyclotomic64Ring {
     ghost value = { λ x. quad (low {n = 2 ^ 64} (lit< tt) (x .a0)) (low (lit< tt) (x .a1)) (low (lit< tt) (x .a2)) (low (lit< tt) (x .a3)) };
 
     fn zero() -> Cyclotomic64 {
-        Cyclotomic64 { a0: 0, a1: 0, a2: 0, a3: 0 }
+        Cyclotomic64 {
+            a0: 0,
+            a1: 0,
+            a2: 0,
+            a3: 0,
+        }
     }
 
     fn one() -> Cyclotomic64 {
-        Cyclotomic64 { a0: 1, a1: 0, a2: 0, a3: 0 }
+        Cyclotomic64 {
+            a0: 1,
+            a1: 0,
+            a2: 0,
+            a3: 0,
+        }
     }
 
     fn omega() -> Cyclotomic64 {
-        Cyclotomic64 { a0: 0, a1: 1, a2: 0, a3: 0 }
+        Cyclotomic64 {
+            a0: 0,
+            a1: 1,
+            a2: 0,
+            a3: 0,
+        }
     }
 
     fn plus(self, other: Cyclotomic64) -> Cyclotomic64 {
@@ -60,10 +75,22 @@ pub impl Ring for Cyclotomic64 as Cyclotomic64Ring {
         let (a, b, c, d) = (self.a0, self.a1, self.a2, self.a3);
         let (e, f, g, h) = (other.a0, other.a1, other.a2, other.a3);
         Cyclotomic64 {
-            a0: a.wrapping_mul(e).wrapping_sub(c.wrapping_mul(g)).wrapping_sub(b.wrapping_mul(h)).wrapping_sub(d.wrapping_mul(f)),
-            a1: a.wrapping_mul(f).wrapping_sub(c.wrapping_mul(h)).wrapping_add(b.wrapping_mul(e)).wrapping_sub(d.wrapping_mul(g)),
-            a2: a.wrapping_mul(g).wrapping_add(c.wrapping_mul(e)).wrapping_add(b.wrapping_mul(f)).wrapping_sub(d.wrapping_mul(h)),
-            a3: a.wrapping_mul(h).wrapping_add(c.wrapping_mul(f)).wrapping_add(b.wrapping_mul(g)).wrapping_add(d.wrapping_mul(e)),
+            a0: a.wrapping_mul(e)
+                .wrapping_sub(c.wrapping_mul(g))
+                .wrapping_sub(b.wrapping_mul(h))
+                .wrapping_sub(d.wrapping_mul(f)),
+            a1: a.wrapping_mul(f)
+                .wrapping_sub(c.wrapping_mul(h))
+                .wrapping_add(b.wrapping_mul(e))
+                .wrapping_sub(d.wrapping_mul(g)),
+            a2: a.wrapping_mul(g)
+                .wrapping_add(c.wrapping_mul(e))
+                .wrapping_add(b.wrapping_mul(f))
+                .wrapping_sub(d.wrapping_mul(h)),
+            a3: a.wrapping_mul(h)
+                .wrapping_add(c.wrapping_mul(f))
+                .wrapping_add(b.wrapping_mul(g))
+                .wrapping_add(d.wrapping_mul(e)),
         }
     }
 

@@ -50,9 +50,9 @@ module _ (f : QuadraticForm) (live a : ℕ) (inside : live < 2 ^ 48) (on : bit l
       let t : 8 - d ≡ 6 - 4 * n = omega (arith, e, ln) in
       ap (λ m. leftOf omegas f′ m (power + 1)) re
       ∙ root-out omega-laws power _ _
-        (odd-out omega-laws (valueAt f) live a (getD (f .coupling) a 0) (2 + 4 * n) on place (slope (2 + 4 * n) (own (2 + 4 * n) 1 odd refl)) (valueAt f₁) (valueAt f′) (1 + 6 * n) (6 - 4 * n)
-        (λ c. one c ∙ ap (λ x. (valueAt f c + x) % 8) k)
-        (λ c. law c ∙ ap₂ (λ x m. (valueAt f₁ c + x * dot m c) % 8) t (ap₂ bitAnd pe re)) (λ q x l. odd-base omega-laws n q x ln l))
+      (odd-out omega-laws (valueAt f) live a (getD (f .coupling) a 0) (2 + 4 * n) on place (slope (2 + 4 * n) (own (2 + 4 * n) 1 odd refl)) (valueAt f₁) (valueAt f′) (1 + 6 * n) (6 - 4 * n)
+      (λ c. one c ∙ ap (λ x. (valueAt f c + x) % 8) k)
+      (λ c. law c ∙ ap₂ (λ x m. (valueAt f₁ c + x * dot m c) % 8) t (ap₂ bitAnd pe re)) (λ q x l. odd-base omega-laws n q x ln l))
 
   module _ (alone : bitAnd (getD (f .coupling) a 0) live ≡ 0) (even : bit (f .odd) a ≡ 0) where
     -- a variable coupled with no live one, whose coefficient is 0
@@ -98,12 +98,12 @@ module _ (f : QuadraticForm) (live a b : ℕ) (inside : live < 2 ^ 48) (on : bit
       let w = ap₂ bitAnd qe re in
       ap (λ m. leftOf omegas f′ m (power + 2)) re
       ∙ two-out omega-laws power _ _
-        (pair-out omega-laws (valueAt f) live a b (getD (f .coupling) a 0) (getD (f .coupling) b 0) α β on on′ pair-apart (set-below 48 live a inside on) (set-below 48 live b inside on′)
-        coupled (slope f live a inside on (4 * α) e) (slope f live b inside on′ (4 * β) e′) (valueAt f₁) (valueAt f₂) (valueAt f₃) (valueAt f′)
-        (λ c. one c ∙ ap (λ x. (valueAt f c + x) % 8) (ap₂ bitAnd (de ∙ e) (de′ ∙ e′) ∙ both-four α β (bit-lt (f .neg) a) (bit-lt (f .neg) b)))
-        (λ c. law₂ c ∙ ap₂ (λ x m. (valueAt f₁ c + x * dot m c) % 8) (de ∙ e) w)
-        (λ c. law₃ c ∙ ap₂ (λ x m. (valueAt f₂ c + x * dot m c) % 8) (de′ ∙ e′) u)
-        (λ c. law c ∙ ap₂ (λ m n. (valueAt f₃ c + 4 * (dot m c * dot n c)) % 8) u w))
+      (pair-out omega-laws (valueAt f) live a b (getD (f .coupling) a 0) (getD (f .coupling) b 0) α β on on′ pair-apart (set-below 48 live a inside on) (set-below 48 live b inside on′)
+      coupled (slope f live a inside on (4 * α) e) (slope f live b inside on′ (4 * β) e′) (valueAt f₁) (valueAt f₂) (valueAt f₃) (valueAt f′)
+      (λ c. one c ∙ ap (λ x. (valueAt f c + x) % 8) (ap₂ bitAnd (de ∙ e) (de′ ∙ e′) ∙ both-four α β (bit-lt (f .neg) a) (bit-lt (f .neg) b)))
+      (λ c. law₂ c ∙ ap₂ (λ x m. (valueAt f₁ c + x * dot m c) % 8) (de ∙ e) w)
+      (λ c. law₃ c ∙ ap₂ (λ x m. (valueAt f₂ c + x * dot m c) % 8) (de′ ∙ e′) u)
+      (λ c. law c ∙ ap₂ (λ m n. (valueAt f₃ c + 4 * (dot m c * dot n c)) % 8) u w))
 
 -- a step in which g variables go and the power rises by m
 pub stepped : (f f′ : QuadraticForm) (live live′ power power′ g m : ℕ) → 0 < g → g ≤ m → m ≤ 2 * g → Reduced f f′ live live′ power power′ g m

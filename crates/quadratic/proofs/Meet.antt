@@ -42,7 +42,7 @@ module _ (P S T : ℕ) where
   together k =
       bit-linear k P gone
       ∙ ap (bitXor (bit P k)) (bit-linear k (bitOr S T) (bitAnd (bitOr S T) P)
-        ∙ ap₂ bitXor (bit-or S T k) (bit-and (bitOr S T) P k ∙ ap (λ b. b * bit P k) (bit-or S T k)))
+      ∙ ap₂ bitXor (bit-or S T k) (bit-and (bitOr S T) P k ∙ ap (λ b. b * bit P k) (bit-or S T k)))
 
   pub first-shown : bitAnd (bitXor P gone) S ≡ S
   first-shown =

@@ -60,7 +60,7 @@ odd-string n mask c x on =
     let e : suc (x + x) % 2 ≡ 1 = omega arith in
     let h : suc (x + x) / 2 ≡ x = omega arith in
     ap (bitXor c) (spread-on n mask (suc (x + x)) on ∙ ap₂ (λ b y. b * 2 ^ n + spread n mask y) e h ∙ sym (xor-shifted 1 n (spread n mask x) (spread-lt n mask x))
-      ∙ ap (λ z. bitXor z (spread n mask x)) (one-mul (2 ^ n)))
+    ∙ ap (λ z. bitXor z (spread n mask x)) (one-mul (2 ^ n)))
     ∙ sym (xor-assoc c (2 ^ n) (spread n mask x))
 
 module _ {R : Type 0} {o : Ops R} (laws : CommLaws o) where
@@ -117,7 +117,7 @@ module _ {R : Type 0} {o : Ops R} (laws : CommLaws o) where
   over-shift f k mask zero c = refl
   over-shift f k mask (suc n) c =
       let e : bitXor (bitXor c (2 ^ n)) k ≡ bitXor (bitXor c k) (2 ^ n) =
-          xor-assoc c (2 ^ n) k ∙ ap (bitXor c) (xor-comm (2 ^ n) k) ∙ sym (xor-assoc c k (2 ^ n)) in
+      xor-assoc c (2 ^ n) k ∙ ap (bitXor c) (xor-comm (2 ^ n) k) ∙ sym (xor-assoc c k (2 ^ n)) in
       elim (ℕ-discrete (bit mask n) 1) [
         | yes on ↦
             over-on _ mask n c on ∙ ap₂ _⊕_ (over-shift f k mask n c) (over-shift f k mask n (bitXor c (2 ^ n)) ∙ ap (over o f mask n) e)

@@ -21,7 +21,6 @@ use Rattle.quadratic.proofs.Laws.{Facts, comb-linear, comb-is, comb-pow, comb-
 module _ (P : ℕ) (R : ℕ → ℕ) (h : ℕ) (f : Facts P R h) (l : ℕ) (part : bitAnd l P ≡ l) (p : ℕ) (on : bit l p ≡ 1) (least : (q : ℕ) → q < p → bit l q ≡ 0)
     (R′ : ℕ → ℕ) (rows : (q : ℕ) → R′ q ≡ bitXor (R q) (bit l q * R p)) (P′ : ℕ) (pe : P′ ≡ bitXor P (2 ^ p))
     (b : ℕ) (small : b < 2) where
-
   -- p is a pivot
   pivot : bit P p ≡ 1
   pivot = digit (λ x. bit P p ≡ x → x ≡ 1) (λ z. let y = part-off l P p part z in absurd (omega arith)) (λ o. refl) (bit P p) (bit-lt P p) refl

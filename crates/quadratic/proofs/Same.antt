@@ -39,7 +39,7 @@ same-values s t h e c =
     let own : Member (s .space) y = (k, refl) in
     let at : bitAnd y P ≡ k = coordinate P (row (s .space .rows)) (s .space .shift) (facts (s .space)) k (and-twice c P) in
     let value : valueAt (s .form) y ≡ valueAt (t .form) y =
-        some (sym (phase-in s y own) ∙ h y ∙ phase-in t y (same-members s t h y own)) in
+    some (sym (phase-in s y own) ∙ h y ∙ phase-in t y (same-members s t h y own)) in
     s .idle c ∙ ap (valueAt (s .form)) (sym at) ∙ sym (s .idle y) ∙ value ∙ t .idle y
     ∙ ap (valueAt (t .form)) (ap (bitAnd y) (sym e) ∙ at ∙ ap (bitAnd c) e) ∙ sym (t .idle c)
   where

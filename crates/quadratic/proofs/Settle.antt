@@ -105,6 +105,7 @@ module _ (v v′ : ℕ → ℕ) (P left i col β : ℕ) (law : (c : ℕ) → v�
     where
       square : (b x : ℕ) → b < 2 → x * b ≡ x * b * b
       square b x = digit (λ b. x * b ≡ x * b * b) (simp mul-zero) (simp mul-one) b
+
       one : (k : ℕ) → bit (put c) k * bit M k ≡ bit (put (bitAnd c M′)) k * bit M k
       one k =
           elim (ℕ-discrete k i) [

@@ -135,8 +135,8 @@ module _ {R : Type 0} {o : Ops R} (laws : RingLaws o) where
           Over.over-out comm (λ c. wpow o (v c)) live a 48 0 on place
           ∙ Over.over-out comm _ (bitXor live (2 ^ a)) b 48 0 (undropped live a b apart ∙ on′) place′
           ∙ Over.over-same comm _ (λ x. two o ⊗ wpow o (v′ x)) left 48 0 (λ x p.
-            ap₂ _⊕_ (ap (_⊕_ (wpow o (v x))) (first x)) (ap₂ _⊕_ (second x) (both x)) ∙ RingFacts.pair-base laws (β + dot col x) (α + dot row x) (v x)
-            ∙ ap (_⊗_ (two o)) (pair-value x p)) refl
+          ap₂ _⊕_ (ap (_⊕_ (wpow o (v x))) (first x)) (ap₂ _⊕_ (second x) (both x)) ∙ RingFacts.pair-base laws (β + dot col x) (α + dot row x) (v x)
+          ∙ ap (_⊗_ (two o)) (pair-value x p)) refl
           ∙ Over.over-times comm (two o) (λ c. wpow o (v′ c)) left 48 0
 
   -- one root, or two, move to the power before the sum

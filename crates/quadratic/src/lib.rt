@@ -1,6 +1,6 @@
 // Quadratic forms with values in Z8 on affine spaces of strings, and their exponential sums.
-mod bits;
 pub mod affine;
+mod bits;
 pub mod form;
 pub mod intersection;
 pub mod phased;

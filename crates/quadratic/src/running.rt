@@ -29,7 +29,10 @@ impl<R: Ring> RunningSum<R> {
     pub fn new() -> RunningSum<R>
         ensures { λ r. ⌜ value (r .value) ≡ ops .nil ⌝ ∗ ⌜ r .count ≡ 0 ⌝ }
     {
-        RunningSum { value: R::zero(), count: 0 }
+        RunningSum {
+            value: R::zero(),
+            count: 0,
+        }
     }
 
     // Adds the string that the count numbers: row a is in string c when bit a - 1 of c is 1.
@@ -74,7 +77,10 @@ pub fn total<R: Ring>(x: &Intersection) -> RunningSum<R>
     };
     let form = s.form();
     let value = branch(&form, &Powers::new(), s.pivots(), 0, form.value(0));
-    RunningSum { value, count: s.strings() }
+    RunningSum {
+        value,
+        count: s.strings(),
+    }
 }
 
 // The first eight powers of omega.
@@ -100,7 +106,16 @@ impl<R: Ring> Powers<R> {
         let p4 = p1.times(p3);
         let p5 = p1.times(p4);
         let p6 = p1.times(p5);
-        Powers { p0: R::one(), p1, p2, p3, p4, p5, p6, p7: p1.times(p6) }
+        Powers {
+            p0: R::one(),
+            p1,
+            p2,
+            p3,
+            p4,
+            p5,
+            p6,
+            p7: p1.times(p6),
+        }
     }
 
     fn at(&self, m: u8) -> R

@@ -29,7 +29,11 @@ fn sum_of(s: &PhasedSpace) -> Scalar
     ensures bounds { λ r. ⌜ Between (ones (now (s .entry) .space .pivots)) r ⌝ }
     ensures exact { λ r. ⌜ embedded omegas (tripleOf r) ≡ leftOf omegas (now (s .entry) .form) (now (s .entry) .space .pivots) 0 ⌝ }
 {
-    let mut sum = Remaining { form: s.form(), live: s.pivots(), power: 0 };
+    let mut sum = Remaining {
+        form: s.form(),
+        live: s.pivots(),
+        power: 0,
+    };
     if !sum.finish() {
         return Scalar::zero();
     }

@@ -59,7 +59,7 @@ module _ (s t : StabilizerState) where
       let own : Member (s .body .space) y = (0, sym (ap (bitXor y) (comb-zero (row (s .body .space .rows))) ∙ xor-zero-r y)) in
       let here = phase-in (s .body) y own in
       let d : depth s ≡ depth t = negatives (depth s) (depth t)
-          (ap (λ x. x .1) (sym (ap (amplitudeOf s) here) ∙ h .amplitudes y ∙ ap (amplitudeOf t) (sym (p y) ∙ here))) in
+      (ap (λ x. x .1) (sym (ap (amplitudeOf s) here) ∙ h .amplitudes y ∙ ap (amplitudeOf t) (sym (p y) ∙ here))) in
       let k = dimension-same p in
       omega (arith, d, k)
 

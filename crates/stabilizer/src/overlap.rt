@@ -9,7 +9,11 @@ use quadratic::intersection::Intersection;
 use quadratic::sum::exponential_sum;
 
 // Writes the intersection of two states: the strings that are in both spaces, each with the phase of s less that of t.
-pub fn intersect(out: &mut Intersection, t: &StabilizerState, s: &StabilizerState) -> Result<(), Refusal>
+pub fn intersect(
+    out: &mut Intersection,
+    t: &StabilizerState,
+    s: &StabilizerState,
+) -> Result<(), Refusal>
     ensures number { λ r. ⌜ answerOf r ≡ sizesNumber (now (t .entry)) (now (s .entry)) ⌝ }
     ensures granted { λ r. ⌜ (answerOf r ≡ 0 → Intersects (now (out .exit)) (now (t .entry)) (now (s .entry))) ⌝ }
     ensures refused { λ r. ⌜ (0 < answerOf r → now (out .exit) ≡ now (out .entry)) ⌝ }

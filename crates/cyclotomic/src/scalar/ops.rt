@@ -10,14 +10,22 @@ impl Scalar {
     pub fn zero() -> Scalar
         ensures { λ r. ⌜ tripleOf r ≡ nought ⌝ }
     {
-        Scalar { epsilon: 0, power: 0, turn: 0 }
+        Scalar {
+            epsilon: 0,
+            power: 0,
+            turn: 0,
+        }
     }
 
     // 2^(power/2) ω^turn, the turn taken modulo 8.
     pub fn term(power: i64, turn: u64) -> Scalar
         ensures { λ r. ⌜ tripleOf r ≡ unit power turn ⌝ }
     {
-        Scalar { epsilon: 1, power, turn: turn % 8 }
+        Scalar {
+            epsilon: 1,
+            power,
+            turn: turn % 8,
+        }
     }
 
     // The scalar of a triple, if the triple is one.
@@ -25,10 +33,18 @@ impl Scalar {
         ensures { λ r. ⌜ BySome r (Kind (epsilon, power, turn) → ⊥) (λ x. tripleOf x ≡ (epsilon, power, turn)) ⌝ }
     {
         if epsilon == 0 && power == 0 && turn == 0 {
-            return Some(Scalar { epsilon, power, turn });
+            return Some(Scalar {
+                epsilon,
+                power,
+                turn,
+            });
         }
         if epsilon == 1 && turn < 8 {
-            return Some(Scalar { epsilon, power, turn });
+            return Some(Scalar {
+                epsilon,
+                power,
+                turn,
+            });
         }
         None
     }

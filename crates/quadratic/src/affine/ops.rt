@@ -7,8 +7,8 @@ ghost use Rattle.quadratic.specs.Bits.{bit as digit, dot as parity};
 ghost use Rattle.quadratic.specs.Bits.{flag as numeral};
 ghost use Rattle.quadratic.specs.Echelon.{row, combination as combined};
 ghost use Rattle.quadratic.specs.Strings.{Member, Half, Cut, SameStrings, Doubled, Confined, Fitting, Appended, Shifted};
-use super::Outcome;
 use super::AffineSpace;
+use super::Outcome;
 use crate::bits::bit;
 use crate::bits::dot;
 use crate::bits::flag;
@@ -22,7 +22,11 @@ impl AffineSpace {
     pub(crate) fn origin() -> AffineSpace
         ensures { λ r. ⌜ r .pivots ≡ 0 ⌝ ∗ ⌜ ((p : ℕ) → row (r .rows) p ≡ 0) ⌝ ∗ ⌜ r .shift ≡ 0 ⌝ }
     {
-        AffineSpace { pivots: 0, rows: [0; 48], shift: 0 }
+        AffineSpace {
+            pivots: 0,
+            rows: [0; 48],
+            shift: 0,
+        }
     }
 
     pub(crate) fn pivots(&self) -> u64
@@ -115,7 +119,11 @@ impl AffineSpace {
         let l = self.responses(w);
         let beta = dot(w, self.shift) ^ flag(b);
         if l == 0 {
-            return if beta == 0 { Outcome::Unchanged } else { Outcome::Empty };
+            return if beta == 0 {
+                Outcome::Unchanged
+            } else {
+                Outcome::Empty
+            };
         }
         self.cut(l, lowest(l), beta);
         Outcome::Restricted

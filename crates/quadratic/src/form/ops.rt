@@ -88,7 +88,12 @@ impl QuadraticForm {
         requires { ⌜ phase < 8 ⌝ }
         ensures { λ r. ⌜ ((c : ℕ) → valueAt r c ≡ phase) ⌝ ∗ ⌜ r .phase ≡ phase ⌝ }
     {
-        QuadraticForm { phase, odd: 0, neg: 0, coupling: [0; 48] }
+        QuadraticForm {
+            phase,
+            odd: 0,
+            neg: 0,
+            coupling: [0; 48],
+        }
     }
 
     pub(crate) fn phase(&self) -> u64

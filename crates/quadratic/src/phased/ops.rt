@@ -170,7 +170,11 @@ impl PhasedSpace {
     pub fn phase_at(&self, y: u64) -> Option<u8>
         ensures { λ r. ⌜ r ≡ phaseOf (now (self .entry)) y ⌝ }
     {
-        if self.space.contains(y) { Some(self.form.value(y)) } else { None }
+        if self.space.contains(y) {
+            Some(self.form.value(y))
+        } else {
+            None
+        }
     }
 
     // The strings in both spaces, each with this space's phase less the other's; None where there is no such string.

@@ -17,7 +17,11 @@ impl StabilizerState {
     pub fn new() -> StabilizerState
         ensures { λ r. ⌜ Opened r 1 ⌝ }
     {
-        StabilizerState { qubits: 1, loss: 0, body: PhasedSpace::origin(0) }
+        StabilizerState {
+            qubits: 1,
+            loss: 0,
+            body: PhasedSpace::origin(0),
+        }
     }
 
     // The state of n qubits with amplitude 1 at the string of zeros.
@@ -29,7 +33,11 @@ impl StabilizerState {
         if n < 1 || n > 48 {
             return Err(Refusal::Qubits);
         }
-        *self = StabilizerState { qubits: n, loss: 0, body: PhasedSpace::origin(0) };
+        *self = StabilizerState {
+            qubits: n,
+            loss: 0,
+            body: PhasedSpace::origin(0),
+        };
         Ok(())
     }
 

@@ -36,10 +36,9 @@ loop-p-again-then-bit-eq1 c =
     let sum = c .loop-p .sum in
     let e : p ≡ suc (p - 1) = omega arith in
     let on : bit mask (p - 1) ≡ 1 = sym (c .bit .ensures .0) ∙ c .if-bit-eq1 .taken in
-    let put = shifted (a % 2) (p - 1) (omega arith) (omega arith) in
-    (
+    let put = shifted (a % 2) (p - 1) (omega arith) (omega arith) in (
       c .loop-p .inv .0 ∙ ap (λ n. sum + spread n mask a) e ∙ ap (_+_ sum) (spread-on (p - 1) mask a on)
-      ∙ sym (add-assoc sum (a % 2 * 2 ^ (p - 1)) (spread (p - 1) mask (a / 2))) ∙ ap (λ x. sum + x + spread (p - 1) mask (a / 2)) (sym put),
+          ∙ sym (add-assoc sum (a % 2 * 2 ^ (p - 1)) (spread (p - 1) mask (a / 2))) ∙ ap (λ x. sum + x + spread (p - 1) mask (a / 2)) (sym put),
       rw put (room sum p (a % 2) (c .loop-p-test .taken) (omega arith) (c .loop-p .inv .1)),
       omega arith,
     )
@@ -51,8 +50,7 @@ loop-p-again c =
     let sum = c .loop-p .sum in
     let e : p ≡ suc (p - 1) = omega arith in
     let half = ap (λ n. 2 ^ n) e ∙ pow-suc 2 (p - 1) in
-    let off = λ (on : bit mask (p - 1) ≡ 1). c .if-bit-eq1 .left (c .bit .ensures .0 ∙ on) in
-    (
+    let off = λ (on : bit mask (p - 1) ≡ 1). c .if-bit-eq1 .left (c .bit .ensures .0 ∙ on) in (
       c .loop-p .inv .0 ∙ ap (λ n. sum + spread n mask (c .loop-p .left)) e ∙ ap (_+_ sum) (spread-off (p - 1) mask (c .loop-p .left) off),
       omega (arith, half, c .loop-p .inv .1),
       omega arith,

@@ -21,8 +21,7 @@ loop-p-again-then-bit-eq1 c =
     let a = c .loop-p .left in
     let e : p ≡ suc (p - 1) = omega arith in
     let on : bit mask (p - 1) ≡ 1 = sym (c .bit .ensures .0) ∙ c .if-bit-eq1 .taken in
-    let less : a - 1 ≡ c .saturating-sub-left .result = omega arith in
-    (
+    let less : a - 1 ≡ c .saturating-sub-left .result = omega arith in (
       c .loop-p .inv .0 ∙ ap (λ n. place n mask a) e ∙ place-passed (p - 1) mask a on (c .if-left-eq1 .left) ∙ ap (place (p - 1) mask) less,
       omega arith,
     )

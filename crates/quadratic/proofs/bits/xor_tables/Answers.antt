@@ -14,11 +14,10 @@ loop-a-again c =
     let t = c .loop-a .table in
     let a = c .loop-a .a in
     let inv = c .loop-a .inv in
-    let l : a < length t = omega (arith, inv .0) in
-    (
+    let l : a < length t = omega (arith, inv .0) in (
       length-set t a _ ∙ inv .0,
       below-more _ a (λ k h. getD-set-other t a k _ 0 (omega arith) ∙ inv .1 k h)
-      (getD-set-same t a _ 0 l ∙ ap (λ x. bitXor x (getD (c .args .other .now) a 0)) (inv .2 a (omega arith))),
+          (getD-set-same t a _ 0 l ∙ ap (λ x. bitXor x (getD (c .args .other .now) a 0)) (inv .2 a (omega arith))),
       λ k h. getD-set-other t a k _ 0 (omega arith) ∙ inv .2 k (omega arith),
     )
 

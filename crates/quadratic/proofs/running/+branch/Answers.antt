@@ -61,5 +61,5 @@ returns g t c =
     let e = c .turned-rest .ensures in
     c .plus .ensures
     ∙ ap₂ (m .ops .plus) (c .branch-form .ensures ∙ ap (λ x. over (m .ops) f x 48 (c .args .c)) e)
-        (c .branch-form-2 .ensures ∙ ap₂ (λ x y. over (m .ops) f x 48 y) e (c .turned .ensures))
+    (c .branch-form-2 .ensures ∙ ap₂ (λ x y. over (m .ops) f x 48 y) e (c .turned .ensures))
     ∙ sym (over-split (m .laws .comm) f (c .args .mask) a 48 (c .args .c) on (set-below 48 (c .args .mask) a (c .pre .inside) on))

@@ -32,7 +32,7 @@ returns c =
     let p = sum-power (c .intersect .last .out) x (c .exponential-sum-sum .ensures .bounds) ne in
     let low : c .depth .result + c .depth-2 .result ≤ 10000 = omega (arith, c .depth .ensures .bound, c .depth-2 .ensures .bound) in
     let power = subtracted (c .power .result) (p .0) (c .depth .result + c .depth-2 .result) (c .power .ensures ∙ p .1) (p .2) low
-        ∙ ap₂ (λ x k. x +ℤ negℤ (pos k)) (c .power .ensures) (ap₂ _+_ (c .depth .ensures .value) (c .depth-2 .ensures .value)) in
+    ∙ ap₂ (λ x k. x +ℤ negℤ (pos k)) (c .power .ensures) (ap₂ _+_ (c .depth .ensures .value) (c .depth-2 .ensures .value)) in
     record {
       number = i .number;
       value = record {

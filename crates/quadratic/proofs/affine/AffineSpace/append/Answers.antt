@@ -28,8 +28,7 @@ returns-in-Some c =
     let p = c .in-Some .p in
     let g = c .args .added in
     let f = c .in-Some .ensures tt in
-    let i = c .insert .ensures in
-    (
+    let i = c .insert .ensures in (
       f,
       i .pivots,
       λ q. i .rows q ∙ ap (λ b. bitXor (row (s .rows) q) (bitXor b (bit (2 ^ p) q) * g)) (f .free q) ∙ ap (λ b. bitXor (row (s .rows) q) (b * g)) (xor-zero-l (bit (2 ^ p) q)),

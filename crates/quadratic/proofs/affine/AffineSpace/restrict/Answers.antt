@@ -11,15 +11,19 @@ use Rattle.quadratic.proofs.Restrict.{by-parity, flat}
 use Rattle.quadratic.proofs.affine.AffineSpace.restrict.Needs as need
 
 pub returns-then-beta-eq0 : need.returns-then-beta-eq0
-returns-then-beta-eq0 c =
-    (refl, λ y m. flat (c .args .self .now) (c .args .w) (c .responses-l .result) (c .responses-l .ensures .bits) (c .if-l-eq0 .taken) y m
-    ∙ sym (c .dot .ensures .0) ∙ move (c .dot .result) (c .flag .result) 0 (c .if-beta-eq0 .taken) ∙ xor-zero-l (c .flag .result) ∙ c .flag .ensures)
+returns-then-beta-eq0 c = (
+  refl,
+  λ y m. flat (c .args .self .now) (c .args .w) (c .responses-l .result) (c .responses-l .ensures .bits) (c .if-l-eq0 .taken) y m
+      ∙ sym (c .dot .ensures .0) ∙ move (c .dot .result) (c .flag .result) 0 (c .if-beta-eq0 .taken) ∙ xor-zero-l (c .flag .result) ∙ c .flag .ensures,
+)
 
 pub returns-else-beta-eq0 : need.returns-else-beta-eq0
-returns-else-beta-eq0 c =
-    (refl, λ y m d.
-    let e = flat (c .args .self .now) (c .args .w) (c .responses-l .result) (c .responses-l .ensures .bits) (c .if-l-eq0 .taken) y m in
-    c .if-beta-eq0 .left (ap₂ bitXor (c .dot .ensures .0 ∙ sym e ∙ d) (c .flag .ensures) ∙ xor-self (flag (c .args .b))))
+returns-else-beta-eq0 c = (
+  refl,
+  λ y m d.
+      let e = flat (c .args .self .now) (c .args .w) (c .responses-l .result) (c .responses-l .ensures .bits) (c .if-l-eq0 .taken) y m in
+      c .if-beta-eq0 .left (ap₂ bitXor (c .dot .ensures .0 ∙ sym e ∙ d) (c .flag .ensures) ∙ xor-self (flag (c .args .b))),
+)
 
 pub cut-requires : need.cut-requires
 cut-requires c κs =

@@ -24,7 +24,9 @@ returns c =
     let s = c .args .self .now in
     let t = c .args .other .now in
     record {
-      sound = λ b. (strings-same s t (c .if-self-other-2 .left) (λ p l. c .loop-p .inv p (omega arith)),
-          strings-same t s (sym (c .if-self-other-2 .left)) (λ p l. sym (c .loop-p .inv p (omega arith))));
+      sound = λ b. (
+        strings-same s t (c .if-self-other-2 .left) (λ p l. c .loop-p .inv p (omega arith)),
+        strings-same t s (sym (c .if-self-other-2 .left)) (λ p l. sym (c .loop-p .inv p (omega arith))),
+      );
       complete = λ h. tt;
     }

@@ -20,20 +20,20 @@ ghost-self c =
     let s = c .xor-rows-2 .last .table in
     let x = c .xor-rows .ensures in
     let y = c .xor-rows-2 .ensures in (
-        f .phased,
+      f .phased,
+      (
+        f .odds,
         (
-          f .odds,
+          xor-lt 48 (f .neg) (bitAnd u v) (f .negs) (lt-of-le-of-lt (and-le-l u v) (c .pre .0)),
           (
-            xor-lt 48 (f .neg) (bitAnd u v) (f .negs) (lt-of-le-of-lt (and-le-l u v) (c .pre .0)),
+            inside-both 48 (f .phase) (f .odd) (f .neg) (f .coupling) t s u v x y (c .pre .0) (c .pre .1) (f .inside),
             (
-              inside-both 48 (f .phase) (f .odd) (f .neg) (f .coupling) t s u v x y (c .pre .0) (c .pre .1) (f .inside),
-              (
-                square-both 48 (f .phase) (f .odd) (f .neg) (f .coupling) t s u v x y (f .square),
-                (own-both 48 (f .phase) (f .odd) (f .neg) (f .coupling) t s u v x y (f .own), tt),
-              ),
+              square-both 48 (f .phase) (f .odd) (f .neg) (f .coupling) t s u v x y (f .square),
+              (own-both 48 (f .phase) (f .odd) (f .neg) (f .coupling) t s u v x y (f .own), tt),
             ),
           ),
         ),
+      ),
     )
 
 pub returns : need.returns
@@ -41,4 +41,4 @@ unfolding valueAt
 returns c =
     let f = c .args .self .now in
     λ p. value-product 48 (f .phase) (f .odd) (f .neg) (f .coupling) (c .xor-rows .last .table) (c .xor-rows-2 .last .table) (c .args .u) (c .args .v)
-          (c .xor-rows .ensures) (c .xor-rows-2 .ensures) p (c .pre .0) (c .pre .1)
+    (c .xor-rows .ensures) (c .xor-rows-2 .ensures) p (c .pre .0) (c .pre .1)

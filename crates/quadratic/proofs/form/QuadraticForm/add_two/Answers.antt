@@ -14,20 +14,20 @@ ghost-self c =
     let m = c .args .mask in
     let t = c .xor-rows .last .table in
     let x = c .xor-rows .ensures in (
-        f .phased,
+      f .phased,
+      (
+        xor-lt 48 (f .odd) m (f .odds) (c .pre),
         (
-          xor-lt 48 (f .odd) m (f .odds) (c .pre),
+          xor-lt 48 (f .neg) (bitAnd m (f .odd)) (f .negs) (lt-of-le-of-lt (and-le-l m (f .odd)) (c .pre)),
           (
-            xor-lt 48 (f .neg) (bitAnd m (f .odd)) (f .negs) (lt-of-le-of-lt (and-le-l m (f .odd)) (c .pre)),
+            inside-xor (f .coupling) t m m x 48 (c .pre) (f .inside),
             (
-              inside-xor (f .coupling) t m m x 48 (c .pre) (f .inside),
-              (
-                square-two 48 (f .phase) (f .odd) (f .neg) (f .coupling) m 0 (c .pre) t x (f .square),
-                (own-two 48 (f .phase) (f .odd) (f .neg) (f .coupling) m 0 (c .pre) t x (f .own), tt),
-              ),
+              square-two 48 (f .phase) (f .odd) (f .neg) (f .coupling) m 0 (c .pre) t x (f .square),
+              (own-two 48 (f .phase) (f .odd) (f .neg) (f .coupling) m 0 (c .pre) t x (f .own), tt),
             ),
           ),
         ),
+      ),
     )
 
 pub returns : need.returns

@@ -21,17 +21,17 @@ ghost-self c =
     let h : ℕ = (1 * 2 ^ a) % 2 ^ 64 in
     let e : h ≡ 2 ^ a = one-shl a 64 (omega arith) in
     let low : h < 2 ^ 48 = rw e (pow-below a 48 (c .pre)) in (
-        f .phased,
+      f .phased,
+      (
+        mask-below (f .odd) h a e 48 (f .odds),
         (
-          mask-below (f .odd) h a e 48 (f .odds),
+          mask-below (f .neg) h a e 48 (f .negs),
           (
-            mask-below (f .neg) h a e 48 (f .negs),
-            (
-              inside-clear (f .coupling) t h a e x (f .square) 48 low (f .inside),
-              (square-clear (f .coupling) t h a e x (f .square), (own-clear (f .coupling) t h a e x (f .square) (f .odd) (f .own), tt)),
-            ),
+            inside-clear (f .coupling) t h a e x (f .square) 48 low (f .inside),
+            (square-clear (f .coupling) t h a e x (f .square), (own-clear (f .coupling) t h a e x (f .square) (f .odd) (f .own), tt)),
           ),
         ),
+      ),
     )
 
 pub returns : need.returns

@@ -23,6 +23,7 @@ coefs o o′ n n′ k =
   where
     Goal : ℕ → ℕ → ℕ → ℕ → Type 0
     Goal a b x y = (2 * ((a + b) % 2) + 4 * (((x + y) % 2 + b * ((a + b) % 2)) % 2) + (2 * b + 4 * y)) % 8 ≡ (2 * a + 4 * x) % 8
+
     pair : (a b : ℕ) → Goal a b 0 0 → Goal a b 0 1 → Goal a b 1 0 → Goal a b 1 1 → Goal a b (bit n k) (bit n′ k)
     pair a b p q r s = digit₂ (Goal a b) p q r s (bit n k) (bit n′ k) (bit-lt n k) (bit-lt n′ k)
 

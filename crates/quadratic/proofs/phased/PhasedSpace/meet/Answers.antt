@@ -36,7 +36,7 @@ ghost-result c =
     let M = bitXor P (gone P S T) in
     let e = settled P S T _ _ _ (c .pivots .ensures) (c .pivots-2 .ensures) (c .pivots-3 .ensures) in
     let seen : Seen (valueAt r) M = seen-difference (valueAt r) (valueAt (s .form)) (valueAt (t .form)) M (value-lt r) (value-lt (t .form)) (c .minus-form .ensures)
-        (wider (valueAt (s .form)) S M (first-shown P S T) (s .idle)) (wider (valueAt (t .form)) T M (second-shown P S T) (t .idle)) in
+    (wider (valueAt (s .form)) S M (first-shown P S T) (s .idle)) (wider (valueAt (t .form)) T M (second-shown P S T) (t .idle)) in
     (c .settle .ensures .seen (subst (λ x. Seen (valueAt r) (bitXor P x)) (sym e) seen), tt)
 
 pub returns : need.returns

@@ -52,15 +52,14 @@ loop-left-again c =
     let dropped = drop-bit left i on in
     let v = valueAt (c .loop-left .form) in
     let v′ = valueAt (c .fix .last .self) in
-    let β = c .bit .ensures .0 in
-    (
+    let β = c .bit .ensures .0 in (
       rw e (omega (arith, dropped, inv .0)),
       ap (λ x. bitAnd x (s .pivots)) e ∙ still-apart (s .pivots) left i (inv .1) on,
       λ y m.
-        c .fix .ensures y ∙ ap (λ b. v (bitXor y (bitXor (bit y i) (bitXor (dot col y) b) * 2 ^ i))) (β ∙ ap (λ x. bit x i) (c .shift .ensures))
-        ∙ ap (λ x. v (bitXor y (x * 2 ^ i))) (own-bit s i col bits y m) ∙ ap v (ap (bitXor y) (zero-mul (2 ^ i)) ∙ xor-zero-r y) ∙ inv .2 y m,
+          c .fix .ensures y ∙ ap (λ b. v (bitXor y (bitXor (bit y i) (bitXor (dot col y) b) * 2 ^ i))) (β ∙ ap (λ x. bit x i) (c .shift .ensures))
+          ∙ ap (λ x. v (bitXor y (x * 2 ^ i))) (own-bit s i col bits y m) ∙ ap v (ap (bitXor y) (zero-mul (2 ^ i)) ∙ xor-zero-r y) ∙ inv .2 y m,
       λ h. subst (λ x. Seen v′ (bitXor (s .pivots) x)) (sym e)
-        (unseen v v′ (s .pivots) left i col (c .bit .result) (c .fix .ensures) (c .bit .ensures .1) (inv .1) on (column-inside s i col bits) (inv .3 h)),
+          (unseen v v′ (s .pivots) left i col (c .bit .result) (c .fix .ensures) (c .bit .ensures .1) (inv .1) on (column-inside s i col bits) (inv .3 h)),
     )
 
 pub returns : need.returns

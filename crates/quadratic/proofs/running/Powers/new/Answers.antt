@@ -12,6 +12,12 @@ returns g c =
     let fifth = c .times-p5 .ensures ∙ ap₂ (m .ops .times) w fourth in
     let sixth = c .times-p6 .ensures ∙ ap₂ (m .ops .times) w fifth in
     record {
-      zeroth = c .one .ensures; first = first; second = second; third = third; fourth = fourth; fifth = fifth; sixth = sixth;
+      zeroth = c .one .ensures;
+      first = first;
+      second = second;
+      third = third;
+      fourth = fourth;
+      fifth = fifth;
+      sixth = sixth;
       seventh = c .times .ensures ∙ ap₂ (m .ops .times) w sixth;
     }
