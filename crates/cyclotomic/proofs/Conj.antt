@@ -15,7 +15,8 @@ ruleset sides = (units, negs, CommFacts.plus-assoc)
 module _ {R : Type 0} {o : Ops R} (laws : CommLaws o) (h : R → R) (hom : Hom o o h) (turns : o .times (h (o .w)) (o .w) ≡ o .one) where
   hom-inverse : (m : ℕ) → o .times (h (wpow o m)) (wpow o m) ≡ o .one
   hom-inverse zero = ap (λ s. o .times s (o .one)) (hom .one-to) ∙ laws .times-one _
-  hom-inverse (suc m) = ap (λ s. o .times s (wpow o (suc m))) (hom .times-to (o .w) (wpow o m)) ∙ CommFacts.times-middle laws _ _ _ _ ∙ ap₂ (o .times) turns (hom-inverse m) ∙ laws .times-one _
+  hom-inverse (suc m) = ap (λ s. o .times s (wpow o (suc m))) (hom .times-to (o .w) (wpow o m))
+      ∙ CommFacts.times-middle laws _ _ _ _ ∙ ap₂ (o .times) turns (hom-inverse m) ∙ laws .times-one _
 
 module _ {R : Type 0} {o : Ops R} (laws : CommLaws o) where
   infixl 65 _⊕_
@@ -26,10 +27,13 @@ module _ {R : Type 0} {o : Ops R} (laws : CommLaws o) where
   conj-conj z = four refl (CommFacts.neg-neg laws _) (CommFacts.neg-neg laws _) (CommFacts.neg-neg laws _)
 
   -- the product in coordinates
-  pub tower-times : (a b c d e f g h : R) → tower o .times (quad a b c d) (quad e f g h) ≡ quad (a ⊗ e ⊕ (neg (c ⊗ g) ⊕ (neg (b ⊗ h) ⊕ neg (d ⊗ f)))) (a ⊗ f ⊕ (neg (c ⊗ h) ⊕ (b ⊗ e ⊕ neg (d ⊗ g)))) (a ⊗ g ⊕ (c ⊗ e ⊕ (b ⊗ f ⊕ neg (d ⊗ h)))) (a ⊗ h ⊕ (c ⊗ f ⊕ (b ⊗ g ⊕ d ⊗ e)))
+  pub tower-times : (a b c d e f g h : R) → tower o .times (quad a b c d) (quad e f g h)
+      ≡ quad (a ⊗ e ⊕ (neg (c ⊗ g) ⊕ (neg (b ⊗ h) ⊕ neg (d ⊗ f)))) (a ⊗ f ⊕ (neg (c ⊗ h) ⊕ (b ⊗ e ⊕ neg (d ⊗ g))))
+      (a ⊗ g ⊕ (c ⊗ e ⊕ (b ⊗ f ⊕ neg (d ⊗ h)))) (a ⊗ h ⊕ (c ⊗ f ⊕ (b ⊗ g ⊕ d ⊗ e)))
   tower-times a b c d e f g h = four (simp (sides, laws)) (simp (sides, laws)) (simp (sides, laws)) (simp (sides, laws))
 
-  times-to : (a b c d e f g h : R) → conj o (tower o .times (quad a b c d) (quad e f g h)) ≡ tower o .times (quad a (neg d) (neg c) (neg b)) (quad e (neg h) (neg g) (neg f))
+  times-to : (a b c d e f g h : R) → conj o (tower o .times (quad a b c d) (quad e f g h))
+      ≡ tower o .times (quad a (neg d) (neg c) (neg b)) (quad e (neg h) (neg g) (neg f))
   times-to a b c d e f g h =
       ap (conj o) (tower-times a b c d e f g h)
       ∙ four (simp (negs, ring, laws)) (simp (negs, ring, laws)) (simp (negs, ring, laws)) (simp (negs, ring, laws))

@@ -16,7 +16,8 @@ use Rattle.cyclotomic.proofs.Sums
 
 module _ {A B : Type 0} {o : Ops A} {p : Ops B} (from : CommLaws o) (to : CommLaws p) (h : A → B) (hom : Hom o p h) where
   pub nil-to : h (o .nil) ≡ p .nil
-  nil-to = CommFacts.cancel to _ _ (h (o .nil)) (sym (hom .plus-to (o .nil) (o .nil)) ∙ ap h (from .plus-nil (o .nil)) ∙ sym (CommFacts.nil-plus to _))
+  nil-to = CommFacts.cancel to _ _ (h (o .nil))
+      (sym (hom .plus-to (o .nil) (o .nil)) ∙ ap h (from .plus-nil (o .nil)) ∙ sym (CommFacts.nil-plus to _))
 
   pub extend-hom : (s : A) (t : B) → p .times t t ≡ h s → Hom (adjoin o s) p (extend p h t)
   extend-hom s t square = record {
@@ -39,7 +40,8 @@ module _ {A B : Type 0} {o : Ops A} {p : Ops B} (from : CommLaws o) (to : CommLa
 
     rpow-to : (m : ℕ) → h (rpow o m) ≡ rpow p m
     rpow-to zero = hom .one-to
-    rpow-to (suc m) = hom .times-to (root o) (rpow o m) ∙ ap₂ (p .times) (hom .plus-to (wpow o 1) (wpow o 7) ∙ ap₂ (p .plus) (wpow-to 1) (wpow-to 7)) (rpow-to m)
+    rpow-to (suc m) = hom .times-to (root o) (rpow o m)
+        ∙ ap₂ (p .times) (hom .plus-to (wpow o 1) (wpow o 7) ∙ ap₂ (p .plus) (wpow-to 1) (wpow-to 7)) (rpow-to m)
 
     pub exact-to : (i m : ℕ) → h (exact o i m) ≡ exact p i m
     exact-to i m = hom .times-to (rpow o i) (wpow o m) ∙ ap₂ (p .times) (rpow-to i) (wpow-to m)
@@ -48,7 +50,8 @@ module _ {R : Type 0} {o : Ops R} (laws : CommLaws o) where
   pub int-hom : Hom ints o (int-to o)
   int-hom = record {
     one-to = simp (int-to, units, negs, laws);
-    plus-to = λ x y. CommFacts.differ laws _ _ _ _ (moved (up (x +ℤ y)) (down x) (down y) (down (x +ℤ y)) (up x) (up y) (sum-is x y)) ∙ simp (int-to, CommFacts.num-plus, negs, ring, laws);
+    plus-to = λ x y. CommFacts.differ laws _ _ _ _ (moved (up (x +ℤ y)) (down x) (down y) (down (x +ℤ y)) (up x) (up y) (sum-is x y))
+        ∙ simp (int-to, CommFacts.num-plus, negs, ring, laws);
     times-to = λ x y. simp (int-to, product-is x y .0, product-is x y .1, CommFacts.num-plus, CommFacts.num-times, negs, ring, laws);
   }
     where
@@ -61,11 +64,14 @@ module _ {R : Type 0} {o : Ops R} (laws : RingLaws o) where
   open RingLaws laws using (comm)
 
   gauss-hom : Hom (gauss ints) o (gauss-to o)
-  gauss-hom = extend-hom int-laws comm (int-to o) (int-hom comm) (negsuc 0) (o .times (o .w) (o .w)) (simp (int-to, units, comm .times-assoc, comm) (ap (λ x. o .times (o .w) (o .times (o .w) (o .times (o .w) x))) (sym (comm .times-one (o .w))) ∙ RingFacts.wpow-four laws))
+  gauss-hom = extend-hom int-laws comm (int-to o) (int-hom comm) (negsuc 0) (o .times (o .w) (o .w))
+      (simp (int-to, units, comm .times-assoc, comm)
+      (ap (λ x. o .times (o .w) (o .times (o .w) (o .times (o .w) x))) (sym (comm .times-one (o .w))) ∙ RingFacts.wpow-four laws))
 
   pub omega-hom : Hom omegas o (omega-to o)
   unfolding omegas
-  omega-hom = extend-hom (gauss-laws int-laws) comm (gauss-to o) gauss-hom (gauss ints .w) (o .w) (sym (extend-w int-laws comm (int-to o) (int-hom comm) (negsuc 0) _))
+  omega-hom = extend-hom (gauss-laws int-laws) comm (gauss-to o) gauss-hom (gauss ints .w) (o .w)
+      (sym (extend-w int-laws comm (int-to o) (int-hom comm) (negsuc 0) _))
 
   omega-w : omega-to o (omegas .w) ≡ o .w
   unfolding omegas
@@ -77,7 +83,8 @@ module _ {R : Type 0} {o : Ops R} (laws : RingLaws o) where
       ∙ Sums.sum-same comm _ _ n (λ c l. wpow-to (omega-laws .comm) comm (omega-to o) omega-hom omega-w (q c))
 
   -- what a sum of powers of w is in ℤ[w], it is in every ring
-  pub transfer : (q : ℕ → ℕ) (n p m : ℕ) → sum-to omegas (λ c. wpow omegas (q c)) n ≡ exact omegas p m → sum-to o (λ c. wpow o (q c)) n ≡ exact o p m
+  pub transfer : (q : ℕ → ℕ) (n p m : ℕ) → sum-to omegas (λ c. wpow omegas (q c)) n ≡ exact omegas p m
+      → sum-to o (λ c. wpow o (q c)) n ≡ exact o p m
   transfer q n p m h = sym (powers q n) ∙ ap (omega-to o) h ∙ exact-to (omega-laws .comm) comm (omega-to o) omega-hom omega-w p m
 
   pub transfer-nil : (q : ℕ → ℕ) (n : ℕ) → sum-to omegas (λ c. wpow omegas (q c)) n ≡ omegas .nil → sum-to o (λ c. wpow o (q c)) n ≡ o .nil

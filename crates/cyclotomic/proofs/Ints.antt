@@ -20,7 +20,16 @@ pub *ℤ-assoc : (x y z : ℤ) → (x *ℤ y) *ℤ z ≡ x *ℤ (y *ℤ z)
 pub *ℤ-plus : (x y z : ℤ) → x *ℤ (y +ℤ z) ≡ x *ℤ y +ℤ x *ℤ z
 *ℤ-plus x y z =
     let e = sum-is y z in
-    same-in _ _ (omega (arith, sum-is (x *ℤ y) (x *ℤ z), product-is x (y +ℤ z), product-is x y, product-is x z, ap (_*_ (up x)) e, ap (_*_ (down x)) e))
+    same-in _ _
+    (omega (
+      arith,
+      sum-is (x *ℤ y) (x *ℤ z),
+      product-is x (y +ℤ z),
+      product-is x y,
+      product-is x z,
+      ap (_*_ (up x)) e,
+      ap (_*_ (down x)) e,
+    ))
 
 *ℤ-unit : (x : ℤ) → x *ℤ pos 1 ≡ x
 unfolding one

@@ -24,4 +24,5 @@ module _ {n : ℕ} (h : 0 < n) where
   low-wrapped w a b e =
       let laws = residue-laws n h w in
       cancel laws (low h b) (residues h w .neg (low h a)) (low h a)
-      (sym (low-plus n h w b a) ∙ same (e ∙ sym (zero-mod n)) ∙ sym (laws .plus-comm (residues h w .neg (low h a)) (low h a) ∙ laws .plus-neg (low h a)))
+      (sym (low-plus n h w b a) ∙ same (e ∙ sym (zero-mod n))
+      ∙ sym (laws .plus-comm (residues h w .neg (low h a)) (low h a) ∙ laws .plus-neg (low h a)))

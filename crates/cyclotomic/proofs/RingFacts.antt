@@ -3,7 +3,8 @@ use Prim.Native.Nat.{ℕ, zero, suc, _+_, _*_, _%_, _/_, _^_}
 use native.Mathlib.Omega.{arith}
 use native.Mathlib.Nat.{zero-add, suc-add, add-comm}
 use Rattle.cyclotomic.specs.Ring.{Ops, CommLaws, RingLaws, wpow, root, two, rpow, exact, num}
-use Rattle.cyclotomic.specs.CommFacts.{nil-plus, one-times, plus-times, cancel, neg-times, neg-neg, middle, times-nil, times-middle, two-times, num-plus, plus-left-comm}
+use Rattle.cyclotomic.specs.CommFacts.{nil-plus, one-times, plus-times, cancel, neg-times, neg-neg, middle, times-nil, times-middle}
+use Rattle.cyclotomic.specs.CommFacts.{two-times, num-plus, plus-left-comm}
 
 module _ {R : Type 0} {o : Ops R} (laws : RingLaws o) where
   infixl 65 _⊕_
@@ -17,7 +18,8 @@ module _ {R : Type 0} {o : Ops R} (laws : RingLaws o) where
   wpow-add (suc i) j = rw suc-add (ap (_⊗_ w) (wpow-add i j) ∙ sym (times-assoc w (wpow o i) (wpow o j)))
 
   pub wpow-four : wpow o 4 ≡ neg one
-  wpow-four = cancel comm (wpow o 4) (neg one) one (simp (← times-assoc, times-one) (w-fourth ∙ sym (plus-comm (neg one) one ∙ plus-neg one)))
+  wpow-four = cancel comm (wpow o 4) (neg one) one
+      (simp (← times-assoc, times-one) (w-fourth ∙ sym (plus-comm (neg one) one ∙ plus-neg one)))
 
   pub wpow-four-more : (m : ℕ) → wpow o (4 + m) ≡ neg (wpow o m)
   wpow-four-more m = wpow-add 4 m ∙ ap (λ s. s ⊗ wpow o m) wpow-four ∙ neg-times comm one (wpow o m) ∙ ap neg (one-times comm (wpow o m))
@@ -55,7 +57,8 @@ module _ {R : Type 0} {o : Ops R} (laws : RingLaws o) where
       ∙ sums (wpow o 2)
     where
       sums : (x : R) → (x ⊕ one) ⊕ (one ⊕ neg x) ≡ one ⊕ one
-      sums x = ap (_⊕_ (x ⊕ one)) (plus-comm one (neg x)) ∙ middle comm x one (neg x) one ∙ ap (λ s. s ⊕ (one ⊕ one)) (plus-neg x) ∙ nil-plus comm _
+      sums x = ap (_⊕_ (x ⊕ one)) (plus-comm one (neg x)) ∙ middle comm x one (neg x) one ∙ ap (λ s. s ⊕ (one ⊕ one)) (plus-neg x)
+          ∙ nil-plus comm _
 
   pub one-two : one ⊕ wpow o 2 ≡ root o ⊗ w
   one-two = sym (ap (_⊗_ (root o)) (sym (times-one w)) ∙ root-wpow 1 ∙ ap (_⊕_ (wpow o 2)) (wpow-eight 0) ∙ plus-comm _ _)
@@ -70,7 +73,8 @@ module _ {R : Type 0} {o : Ops R} (laws : RingLaws o) where
   pub odd-base : (δ Q : ℕ) → wpow o Q ⊕ wpow o (Q + (2 + 4 * δ)) ≡ root o ⊗ wpow o (Q + (1 + 6 * (δ * δ)))
   odd-base zero Q = ap₂ _⊕_ (wpow-mod _ _ (omega arith)) (wpow-mod _ _ (omega arith)) ∙ plus-comm _ _ ∙ sym (root-wpow (Q + 1))
   odd-base (suc zero) Q = ap₂ _⊕_ (wpow-mod _ _ (omega arith)) (wpow-mod _ _ (omega arith)) ∙ sym (root-wpow (Q + 7))
-  odd-base (suc (suc δ)) Q = ap (_⊕_ (wpow o Q)) (wpow-mod _ _ (omega arith)) ∙ odd-base δ Q ∙ ap (_⊗_ (root o)) (sym (wpow-skip (3 * δ + 3) _ _ (omega arith)))
+  odd-base (suc (suc δ)) Q = ap (_⊕_ (wpow o Q)) (wpow-mod _ _ (omega arith)) ∙ odd-base δ Q
+      ∙ ap (_⊗_ (root o)) (sym (wpow-skip (3 * δ + 3) _ _ (omega arith)))
 
   pub and-fourth : (x : R) → x ⊕ wpow o 4 ⊗ x ≡ nil
   and-fourth x = ap (λ s. x ⊕ s ⊗ x) wpow-four ∙ ap (_⊕_ x) (neg-times comm one x ∙ ap neg (one-times comm x)) ∙ plus-neg x
@@ -84,18 +88,27 @@ module _ {R : Type 0} {o : Ops R} (laws : RingLaws o) where
   three-one : (x y : R) → x ⊕ y ≡ nil → (x ⊕ x) ⊕ (x ⊕ y) ≡ two o ⊗ x
   three-one x y h = ap (_⊕_ (x ⊕ x)) h ∙ plus-nil (x ⊕ x) ∙ sym (two-times comm x)
 
-  four : (a b c d : ℕ) (x y z u : ℕ) → a % 8 ≡ x % 8 → b % 8 ≡ y % 8 → c % 8 ≡ z % 8 → d % 8 ≡ u % 8 → (wpow o a ⊕ wpow o b) ⊕ (wpow o c ⊕ wpow o d) ≡ (wpow o x ⊕ wpow o y) ⊕ (wpow o z ⊕ wpow o u)
+  four : (a b c d : ℕ) (x y z u : ℕ) → a % 8 ≡ x % 8 → b % 8 ≡ y % 8 → c % 8 ≡ z % 8 → d % 8 ≡ u % 8
+      → (wpow o a ⊕ wpow o b) ⊕ (wpow o c ⊕ wpow o d) ≡ (wpow o x ⊕ wpow o y) ⊕ (wpow o z ⊕ wpow o u)
   four a b c d x y z u h k l m = ap₂ _⊕_ (ap₂ _⊕_ (wpow-mod a x h) (wpow-mod b y k)) (ap₂ _⊕_ (wpow-mod c z l) (wpow-mod d u m))
 
   -- the sum over two variables that meet
-  pub pair-base : (α β Q : ℕ) → (wpow o Q ⊕ wpow o (Q + 4 * β)) ⊕ (wpow o (Q + 4 * α) ⊕ wpow o (Q + 4 * (α + β + 1))) ≡ two o ⊗ wpow o (Q + 4 * (α * β))
-  pair-base zero zero Q = four _ _ _ _ (Q + 0) (Q + 0) (Q + 0) (Q + 0 + 4) (omega arith) refl refl (omega arith) ∙ three-one _ _ (wpow-opposite (Q + 0))
-  pair-base zero (suc zero) Q = four _ _ _ _ (Q + 0) (Q + 0 + 4) (Q + 0) (Q + 0) (omega arith) (omega arith) refl (omega arith) ∙ plus-comm _ _ ∙ three-one _ _ (wpow-opposite (Q + 0))
-  pair-base (suc zero) zero Q = four _ _ _ _ (Q + 0) (Q + 0) (Q + 0 + 4) (Q + 0) (omega arith) refl (omega arith) (omega arith) ∙ ap (_⊕_ _) (plus-comm _ _) ∙ three-one _ _ (wpow-opposite (Q + 0))
-  pair-base (suc zero) (suc zero) Q = plus-comm _ _ ∙ four _ _ _ _ (Q + 4) (Q + 4) (Q + 4 + 4) (Q + 4) refl (omega arith) (omega arith) refl ∙ ap (_⊕_ _) (plus-comm _ _) ∙ three-one _ _ (wpow-opposite (Q + 4))
-  pair-base zero (suc (suc β)) Q = four _ _ _ _ _ _ _ _ refl (omega arith) refl (omega arith) ∙ pair-base zero β Q ∙ ap (_⊗_ (two o)) (ap (wpow o) (omega arith))
-  pair-base (suc zero) (suc (suc β)) Q = four _ _ _ _ _ _ _ _ refl (omega arith) refl (omega arith) ∙ pair-base (suc zero) β Q ∙ ap (_⊗_ (two o)) (wpow-mod _ _ (omega arith))
-  pair-base (suc (suc α)) β Q = ap (_⊕_ _) (ap₂ _⊕_ (wpow-mod _ _ (omega arith)) (wpow-mod _ _ (omega arith))) ∙ pair-base α β Q ∙ ap (_⊗_ (two o)) (sym (wpow-skip β _ _ (omega arith)))
+  pub pair-base : (α β Q : ℕ) → (wpow o Q ⊕ wpow o (Q + 4 * β)) ⊕ (wpow o (Q + 4 * α) ⊕ wpow o (Q + 4 * (α + β + 1)))
+      ≡ two o ⊗ wpow o (Q + 4 * (α * β))
+  pair-base zero zero Q = four _ _ _ _ (Q + 0) (Q + 0) (Q + 0) (Q + 0 + 4) (omega arith) refl refl (omega arith)
+      ∙ three-one _ _ (wpow-opposite (Q + 0))
+  pair-base zero (suc zero) Q = four _ _ _ _ (Q + 0) (Q + 0 + 4) (Q + 0) (Q + 0) (omega arith) (omega arith) refl (omega arith)
+      ∙ plus-comm _ _ ∙ three-one _ _ (wpow-opposite (Q + 0))
+  pair-base (suc zero) zero Q = four _ _ _ _ (Q + 0) (Q + 0) (Q + 0 + 4) (Q + 0) (omega arith) refl (omega arith) (omega arith)
+      ∙ ap (_⊕_ _) (plus-comm _ _) ∙ three-one _ _ (wpow-opposite (Q + 0))
+  pair-base (suc zero) (suc zero) Q = plus-comm _ _ ∙ four _ _ _ _ (Q + 4) (Q + 4) (Q + 4 + 4) (Q + 4) refl
+      (omega arith) (omega arith) refl ∙ ap (_⊕_ _) (plus-comm _ _) ∙ three-one _ _ (wpow-opposite (Q + 4))
+  pair-base zero (suc (suc β)) Q = four _ _ _ _ _ _ _ _ refl (omega arith) refl (omega arith) ∙ pair-base zero β Q
+      ∙ ap (_⊗_ (two o)) (ap (wpow o) (omega arith))
+  pair-base (suc zero) (suc (suc β)) Q = four _ _ _ _ _ _ _ _ refl (omega arith) refl (omega arith)
+      ∙ pair-base (suc zero) β Q ∙ ap (_⊗_ (two o)) (wpow-mod _ _ (omega arith))
+  pair-base (suc (suc α)) β Q = ap (_⊕_ _) (ap₂ _⊕_ (wpow-mod _ _ (omega arith)) (wpow-mod _ _ (omega arith)))
+      ∙ pair-base α β Q ∙ ap (_⊗_ (two o)) (sym (wpow-skip β _ _ (omega arith)))
 
   pub rpow-add : (i j : ℕ) → rpow o (i + j) ≡ rpow o i ⊗ rpow o j
   rpow-add zero j = rw zero-add (sym (one-times comm (rpow o j)))
@@ -109,7 +122,8 @@ module _ {R : Type 0} {o : Ops R} (laws : RingLaws o) where
   rpow-square zero = times-one one ∙ sym (plus-nil one)
   rpow-square (suc p) =
       let e : 2 ^ suc p ≡ 2 ^ p + 2 ^ p = omega arith in
-      times-middle comm _ _ _ _ ∙ ap₂ _⊗_ root-square (rpow-square p) ∙ two-times comm _ ∙ sym (ap (num o) e ∙ num-plus comm (2 ^ p) (2 ^ p))
+      times-middle comm _ _ _ _ ∙ ap₂ _⊗_ root-square (rpow-square p) ∙ two-times comm _
+      ∙ sym (ap (num o) e ∙ num-plus comm (2 ^ p) (2 ^ p))
 
   -- where 2 can be cancelled, so can the powers of r
   module _ (halve : (x y : R) → x ⊕ x ≡ y ⊕ y → x ≡ y) where
@@ -121,4 +135,5 @@ module _ {R : Type 0} {o : Ops R} (laws : RingLaws o) where
 
     pub rpow-same : (p : ℕ) (x y : R) → rpow o p ⊗ x ≡ rpow o p ⊗ y → x ≡ y
     rpow-same zero x y h = sym (one-times comm x) ∙ h ∙ one-times comm y
-    rpow-same (suc p) x y h = rpow-same p x y (root-same _ _ (sym (times-assoc (root o) (rpow o p) x) ∙ h ∙ times-assoc (root o) (rpow o p) y))
+    rpow-same (suc p) x y h = rpow-same p x y
+        (root-same _ _ (sym (times-assoc (root o) (rpow o p) x) ∙ h ∙ times-assoc (root o) (rpow o p) y))

@@ -33,14 +33,16 @@ num-same a b h = ap up (sym (num-is a) ∙ ap (λ z. z .re .re) h ∙ num-is b)
 
 double-same : (x y : Omega) → x ⊕ x ≡ y ⊕ y → x ≡ y
 unfolding omegas
-double-same x y h = four (halve _ _ (ap (λ z. z .re .re) h)) (halve _ _ (ap (λ z. z .im .re) h)) (halve _ _ (ap (λ z. z .re .im) h)) (halve _ _ (ap (λ z. z .im .im) h))
+double-same x y h = four (halve _ _ (ap (λ z. z .re .re) h)) (halve _ _ (ap (λ z. z .im .re) h))
+    (halve _ _ (ap (λ z. z .re .im) h)) (halve _ _ (ap (λ z. z .im .im) h))
   where
     halve : (a b : ℤ) → a +ℤ a ≡ b +ℤ b → a ≡ b
     halve a b e = omega (arith, ints)
 
 -- the power of w, read off the coordinates
 turns : Omega → ℕ
-turns z = up (z .im .re) + 2 * up (z .re .im) + 3 * up (z .im .im) + 4 * down (z .re .re) + 5 * down (z .im .re) + 6 * down (z .re .im) + 7 * down (z .im .im)
+turns z = up (z .im .re) + 2 * up (z .re .im) + 3 * up (z .im .im) + 4 * down (z .re .re) + 5 * down (z .im .re)
+    + 6 * down (z .re .im) + 7 * down (z .im .im)
 
 turns-wpow : (m : ℕ) → m < 8 → turns (wpow omegas m) ≡ m
 unfolding turns omegas
@@ -55,7 +57,8 @@ turns-wpow (suc (suc (suc (suc (suc (suc (suc zero))))))) h = refl
 turns-wpow (suc (suc (suc (suc (suc (suc (suc (suc m)))))))) h = absurd (omega arith)
 
 pub wpow-same : (m n : ℕ) → wpow omegas m ≡ wpow omegas n → m % 8 ≡ n % 8
-wpow-same m n h = sym (turns-wpow (m % 8) (omega arith)) ∙ ap turns (sym (RingFacts.wpow-least omega-laws m) ∙ h ∙ RingFacts.wpow-least omega-laws n) ∙ turns-wpow (n % 8) (omega arith)
+wpow-same m n h = sym (turns-wpow (m % 8) (omega arith))
+    ∙ ap turns (sym (RingFacts.wpow-least omega-laws m) ∙ h ∙ RingFacts.wpow-least omega-laws n) ∙ turns-wpow (n % 8) (omega arith)
 
 -- a scalar times its conjugate is 2^p
 conj-rpow : (p : ℕ) → bar (rpow omegas p) ≡ rpow omegas p
@@ -85,8 +88,11 @@ exact-not-nil p m h =
 
 pub exact-same : (p m q n : ℕ) → exact omegas p m ≡ exact omegas q n → (p ≡ q) × (m % 8 ≡ n % 8)
 exact-same p m q n h =
-    let e : p ≡ q = power-same p q (num-same _ _ (sym (exact-norm p m) ∙ ap (λ z. bar z ⊗ z) h ∙ exact-norm q n)) in
-    (e, wpow-same m n (RingFacts.rpow-same omega-laws double-same p (wpow omegas m) (wpow omegas n) (h ∙ ap (λ k. exact omegas k n) (sym e))))
+    let e : p ≡ q = power-same p q (num-same _ _ (sym (exact-norm p m) ∙ ap (λ z. bar z ⊗ z) h ∙ exact-norm q n)) in (
+      e,
+      wpow-same m n
+          (RingFacts.rpow-same omega-laws double-same p (wpow omegas m) (wpow omegas n) (h ∙ ap (λ k. exact omegas k n) (sym e))),
+    )
 
 pub omega-discrete : Discrete Omega
 omega-discrete = pair-discrete (pair-discrete ℤ-discrete)

@@ -40,7 +40,8 @@ module _ {R : Type 0} {o : Ops R} (laws : CommLaws o) where
 
   pub sum-const : (x : R) (n : ℕ) → sum-to o (λ c. x) n ≡ num o n ⊗ x
   sum-const x zero = sym (CommFacts.nil-times laws x)
-  sum-const x (suc n) = ap (λ s. s ⊕ x) (sum-const x n) ∙ CommFacts.plus-comm laws _ _ ∙ ap (λ s. s ⊕ num o n ⊗ x) (sym (CommFacts.one-times laws x)) ∙ sym (CommFacts.plus-times laws one (num o n) x)
+  sum-const x (suc n) = ap (λ s. s ⊕ x) (sum-const x n) ∙ CommFacts.plus-comm laws _ _
+      ∙ ap (λ s. s ⊕ num o n ⊗ x) (sym (CommFacts.one-times laws x)) ∙ sym (CommFacts.plus-times laws one (num o n) x)
 
   pub sum-split : (f : ℕ → R) (n m : ℕ) → sum-to o f (n + m) ≡ sum-to o f n ⊕ sum-to o (λ k. f (n + k)) m
   sum-split f n zero = rw add-zero (sym (plus-nil _))
@@ -72,13 +73,15 @@ module _ {R : Type 0} {o : Ops R} (laws : CommLaws o) where
   delta f n z l = sum-one _ n z l (λ c k d. ap (λ b. only o b (f c)) (ne-eqb c z d)) ∙ ap (λ b. only o b (f z)) (eq-eqb z z refl)
 
   -- the terms by the value of g
-  pub fibres : (g : ℕ → ℕ) (n m : ℕ) (f : ℕ → R) → ((c : ℕ) → c < n → g c < m) → sum-to o f n ≡ sum-to o (λ k. sum-to o (λ c. only o (eqb k (g c)) (f c)) n) m
+  pub fibres : (g : ℕ → ℕ) (n m : ℕ) (f : ℕ → R) → ((c : ℕ) → c < n → g c < m) → sum-to o f n
+      ≡ sum-to o (λ k. sum-to o (λ c. only o (eqb k (g c)) (f c)) n) m
   fibres g n m f into =
       sum-same _ _ n (λ c l. sym (delta (λ k. f c) m (g c) (into c l)))
       ∙ sum-swap (λ c k. only o (eqb k (g c)) (f c)) n m
 
   -- the terms at φ z are the terms at which P holds
-  pub reindex : (φ : ℕ → ℕ) (m n : ℕ) (P : ℕ → Bool) (f : ℕ → R) → Onto φ m n P → sum-to o (λ z. f (φ z)) m ≡ sum-to o (λ c. only o (P c) (f c)) n
+  pub reindex : (φ : ℕ → ℕ) (m n : ℕ) (P : ℕ → Bool) (f : ℕ → R) → Onto φ m n P → sum-to o (λ z. f (φ z)) m
+      ≡ sum-to o (λ c. only o (P c) (f c)) n
   reindex φ m n P f onto =
       sum-same _ _ m (λ z l. sym (delta f n (φ z) (onto .into z l)))
       ∙ sum-swap (λ z c. only o (eqb c (φ z)) (f c)) m n
@@ -92,7 +95,8 @@ module _ {R : Type 0} {o : Ops R} (laws : CommLaws o) where
       column c l false e = sum-nil _ m (λ z j. ap (λ b. only o b (f c)) (ne-eqb c (φ z) (λ s. clash (sym e ∙ ap P s ∙ onto .holds z j))))
 
   -- φ permutes the numbers below n, with the inverse ψ
-  pub permute : (φ ψ : ℕ → ℕ) (n : ℕ) (f : ℕ → R) → ((y : ℕ) → y < n → φ y < n) → ((y : ℕ) → y < n → ψ y < n) → ((y : ℕ) → y < n → ψ (φ y) ≡ y) → ((y : ℕ) → y < n → φ (ψ y) ≡ y) → sum-to o (λ y. f (φ y)) n ≡ sum-to o f n
+  pub permute : (φ ψ : ℕ → ℕ) (n : ℕ) (f : ℕ → R) → ((y : ℕ) → y < n → φ y < n) → ((y : ℕ) → y < n → ψ y < n)
+      → ((y : ℕ) → y < n → ψ (φ y) ≡ y) → ((y : ℕ) → y < n → φ (ψ y) ≡ y) → sum-to o (λ y. f (φ y)) n ≡ sum-to o f n
   permute φ ψ n f into out back there = reindex φ n n (λ c. true) f (record {
     into = into;
     holds = λ z l. refl;
@@ -100,5 +104,6 @@ module _ {R : Type 0} {o : Ops R} (laws : CommLaws o) where
     meets = λ c l e. (ψ c, out c l, there c l);
   })
 
-  pub involute : (φ : ℕ → ℕ) (n : ℕ) (f : ℕ → R) → ((y : ℕ) → y < n → φ y < n) → ((y : ℕ) → y < n → φ (φ y) ≡ y) → sum-to o (λ y. f (φ y)) n ≡ sum-to o f n
+  pub involute : (φ : ℕ → ℕ) (n : ℕ) (f : ℕ → R) → ((y : ℕ) → y < n → φ y < n) → ((y : ℕ) → y < n → φ (φ y) ≡ y)
+      → sum-to o (λ y. f (φ y)) n ≡ sum-to o f n
   involute φ n f into back = permute φ φ n f into into back back

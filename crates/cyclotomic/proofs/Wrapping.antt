@@ -34,7 +34,9 @@ module _ (n : ℕ) (h : 0 < n) (w : ℕ) where
   abbrev _⊠_ : ℕ → ℕ → ℕ
   a ⊠ b = (a * b) % n
 
-  pub four-times : (a b c d e f g k : ℕ) → quad (low h (a ⊠ e ⊟ c ⊠ g ⊟ b ⊠ k ⊟ d ⊠ f)) (low h (a ⊠ f ⊟ c ⊠ k ⊞ b ⊠ e ⊟ d ⊠ g)) (low h (a ⊠ g ⊞ c ⊠ e ⊞ b ⊠ f ⊟ d ⊠ k)) (low h (a ⊠ k ⊞ c ⊠ f ⊞ b ⊠ g ⊞ d ⊠ e)) ≡ tower (residues h w) .times (quad (low h a) (low h b) (low h c) (low h d)) (quad (low h e) (low h f) (low h g) (low h k))
+  pub four-times : (a b c d e f g k : ℕ) → quad (low h (a ⊠ e ⊟ c ⊠ g ⊟ b ⊠ k ⊟ d ⊠ f)) (low h (a ⊠ f ⊟ c ⊠ k ⊞ b ⊠ e ⊟ d ⊠ g))
+      (low h (a ⊠ g ⊞ c ⊠ e ⊞ b ⊠ f ⊟ d ⊠ k)) (low h (a ⊠ k ⊞ c ⊠ f ⊞ b ⊠ g ⊞ d ⊠ e))
+      ≡ tower (residues h w) .times (quad (low h a) (low h b) (low h c) (low h d)) (quad (low h e) (low h f) (low h g) (low h k))
   four-times a b c d e f g k =
       four (same (simp mods)) (same (simp mods)) (same (simp mods)) (same (simp mods))
       ∙ sym (tower-times (residue-laws n h w) (low h a) (low h b) (low h c) (low h d) (low h e) (low h f) (low h g) (low h k))

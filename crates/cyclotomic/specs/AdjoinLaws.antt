@@ -32,7 +32,8 @@ module _ {R : Type 0} {o : Ops R} (laws : CommLaws o) where
   pub tower-laws : RingLaws (tower o)
   tower-laws = record {
     comm = adjoin-laws gauss-laws _;
-    w-fourth = both (both (simp (units, laws) (laws .plus-comm _ _ ∙ laws .plus-neg _)) (simp (units, laws))) (both (simp (units, laws)) (simp (units, laws)));
+    w-fourth = both (both (simp (units, laws) (laws .plus-comm _ _ ∙ laws .plus-neg _)) (simp (units, laws)))
+        (both (simp (units, laws)) (simp (units, laws)));
   }
 
 pub pair-discrete : {R : Type 0} → Discrete R → Discrete (Pair R)

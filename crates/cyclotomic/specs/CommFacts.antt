@@ -71,7 +71,9 @@ module _ {R : Type 0} {o : Ops R} (laws : CommLaws o) where
   neg-neg x = cancel (neg (neg x)) x (neg x) (plus-comm (neg (neg x)) (neg x) ∙ plus-neg (neg x) ∙ sym (plus-neg x))
 
   pub neg-times : (x y : R) → neg x ⊗ y ≡ neg (x ⊗ y)
-  neg-times x y = cancel (neg x ⊗ y) (neg (x ⊗ y)) (x ⊗ y) (sym (plus-times (neg x) x y) ∙ ap (λ s. s ⊗ y) (plus-comm (neg x) x ∙ plus-neg x) ∙ times-comm nil y ∙ times-nil y ∙ sym (plus-comm (neg (x ⊗ y)) (x ⊗ y) ∙ plus-neg (x ⊗ y)))
+  neg-times x y = cancel (neg x ⊗ y) (neg (x ⊗ y)) (x ⊗ y)
+      (sym (plus-times (neg x) x y) ∙ ap (λ s. s ⊗ y) (plus-comm (neg x) x ∙ plus-neg x) ∙ times-comm nil y
+      ∙ times-nil y ∙ sym (plus-comm (neg (x ⊗ y)) (x ⊗ y) ∙ plus-neg (x ⊗ y)))
 
   pub times-neg : (x y : R) → x ⊗ neg y ≡ neg (x ⊗ y)
   times-neg x y = times-comm x (neg y) ∙ neg-times y x ∙ ap neg (times-comm y x)
@@ -80,7 +82,8 @@ module _ {R : Type 0} {o : Ops R} (laws : CommLaws o) where
   neg-nil = sym (nil-plus (neg nil)) ∙ plus-neg nil
 
   pub neg-plus : (x y : R) → neg (x ⊕ y) ≡ neg x ⊕ neg y
-  neg-plus x y = cancel _ _ (x ⊕ y) (plus-comm _ _ ∙ plus-neg (x ⊕ y) ∙ sym (middle (neg x) (neg y) x y ∙ ap₂ _⊕_ (plus-comm _ _ ∙ plus-neg x) (plus-comm _ _ ∙ plus-neg y) ∙ plus-nil nil))
+  neg-plus x y = cancel _ _ (x ⊕ y) (plus-comm _ _ ∙ plus-neg (x ⊕ y)
+      ∙ sym (middle (neg x) (neg y) x y ∙ ap₂ _⊕_ (plus-comm _ _ ∙ plus-neg x) (plus-comm _ _ ∙ plus-neg y) ∙ plus-nil nil))
 
   pub two-times : (x : R) → two o ⊗ x ≡ x ⊕ x
   two-times x = plus-times one one x ∙ ap₂ _⊕_ (one-times x) (one-times x)
@@ -91,7 +94,8 @@ module _ {R : Type 0} {o : Ops R} (laws : CommLaws o) where
 
   pub num-times : (a b : ℕ) → num o (a * b) ≡ num o a ⊗ num o b
   num-times zero b = rw zero-mul (sym (nil-times (num o b)))
-  num-times (suc a) b = rw suc-mul (num-plus (a * b) b ∙ plus-comm _ _ ∙ ap₂ _⊕_ (sym (one-times (num o b))) (num-times a b) ∙ sym (plus-times one (num o a) (num o b)))
+  num-times (suc a) b = rw suc-mul (num-plus (a * b) b ∙ plus-comm _ _ ∙ ap₂ _⊕_ (sym (one-times (num o b))) (num-times a b)
+      ∙ sym (plus-times one (num o a) (num o b)))
 
   -- equal differences
   pub differ : (x y z u : R) → x ⊕ u ≡ z ⊕ y → x ⊕ neg y ≡ z ⊕ neg u

@@ -2,7 +2,8 @@ use mathlib.Core.Path.{_≡_, refl, sym, ap, ap₂, _∙_}
 use mathlib.Core.HLevel.{Σ-prop-path}
 use Prim.Native.Nat.{ℕ, zero, suc, _+_, _*_, _-_, _%_, _/_, _^_, _<_, _≤_}
 use native.Mathlib.Bridge.{le-prop}
-use native.Mathlib.Nat.{mod-lt, mod-mod, mod-self, zero-mod, add-zero, add-comm, add-assoc, mul-one, mul-comm, mul-assoc, mul-add, add-mul, mod-add-mod, add-mod-mod, mod-eq-of-lt, add-mul-mod-self-left, mod-add-div}
+use native.Mathlib.Nat.{mod-lt, mod-mod, mod-self, zero-mod, add-zero, add-comm, add-assoc, mul-one, mul-comm, mul-assoc, mul-add}
+use native.Mathlib.Nat.{add-mul, mod-add-mod, add-mod-mod, mod-eq-of-lt, add-mul-mod-self-left, mod-add-div}
 use native.Mathlib.Omega.{arith}
 use lib.Dec.{lit<}
 use Rattle.cyclotomic.specs.Ring.{Ops, CommLaws, RingLaws}
@@ -17,7 +18,8 @@ module _ (n : ℕ) where
   pub mod-mul-mod : (a b : ℕ) → (a % n * b) % n ≡ (a * b) % n
   mod-mul-mod a b =
       sym (add-mul-mod-self-left (a % n * b) n (a / n * b))
-      ∙ ap (λ k. k % n) (ap (_+_ (a % n * b)) (sym (mul-assoc n (a / n) b)) ∙ sym (add-mul (a % n) (n * (a / n)) b) ∙ ap (λ k. k * b) (mod-add-div a n))
+      ∙ ap (λ k. k % n) (ap (_+_ (a % n * b)) (sym (mul-assoc n (a / n) b)) ∙ sym (add-mul (a % n) (n * (a / n)) b)
+      ∙ ap (λ k. k * b) (mod-add-div a n))
 
   pub mul-mod-mod : (a b : ℕ) → (a * (b % n)) % n ≡ (a * b) % n
   mul-mod-mod a b = ap (λ k. k % n) (mul-comm a (b % n)) ∙ mod-mul-mod b a ∙ ap (λ k. k % n) (mul-comm b a)

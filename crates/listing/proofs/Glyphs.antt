@@ -21,7 +21,8 @@ glyphs-at f at (suc n) zero h = ap (λ (z : ℕ). glyphOf (f z)) (sym (add-zero 
 glyphs-at f at (suc n) (suc k) h = glyphs-at f (at + 1) n k (omega arith) ∙ ap (λ (z : ℕ). glyphOf (f z)) (omega arith)
 
 -- a list that has the digits of f at its places begins with them
-pub glyphs-front : (f : ℕ → ℕ) (xs : List ℕ) (n m : ℕ) → length xs ≡ m → n ≤ m → ((k : ℕ) → k < m → getD xs k 0 ≡ glyphOf (f k)) → take n xs ≡ glyphs f 0 n
+pub glyphs-front : (f : ℕ → ℕ) (xs : List ℕ) (n m : ℕ) → length xs ≡ m → n ≤ m → ((k : ℕ) → k < m → getD xs k 0 ≡ glyphOf (f k))
+    → take n xs ≡ glyphs f 0 n
 glyphs-front f xs n m e h each =
     let size : length (take n xs) ≡ n = length-take-le n xs (omega (arith, e)) in
     ext-getD 0 (take n xs) (glyphs f 0 n) (size ∙ sym (length-glyphs f 0 n))
@@ -30,5 +31,6 @@ glyphs-front f xs n m e h each =
     getD-take n xs k 0 below ∙ (each k (omega arith) ∙ (ap (λ (z : ℕ). glyphOf (f z)) (sym (zero-add k)) ∙ sym (glyphs-at f 0 n k below))))
 
 -- the same bytes were written
-pub same-put : {W : Type 0} {took : W → List ℕ → W → Type 0} {f g : Formatter W} {bs cs : List ℕ} → bs ≡ cs → Put took f bs g → Put took f cs g
+pub same-put : {W : Type 0} {took : W → List ℕ → W → Type 0} {f g : Formatter W} {bs cs : List ℕ} → bs ≡ cs
+    → Put took f bs g → Put took f cs g
 same-put {W} {took} {f} {g} e p = subst (λ (xs : List ℕ). Put took f xs g) e p

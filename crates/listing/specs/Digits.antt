@@ -23,7 +23,8 @@ glyphs f at (suc n) = glyphOf (f at) ∷ glyphs f (at + 1) n
 abbrev pub nibbleOf : ℕ → Option ℕ
 nibbleOf b =
     cond (ltb b 48) None
-    (cond (ltb b 58) (Some (b - 48)) (cond (ltb b 65) None (cond (ltb b 71) (Some (b - 55)) (cond (ltb b 97) None (cond (ltb b 103) (Some (b - 87)) None)))))
+    (cond (ltb b 58) (Some (b - 48))
+    (cond (ltb b 65) None (cond (ltb b 71) (Some (b - 55)) (cond (ltb b 97) None (cond (ltb b 103) (Some (b - 87)) None)))))
 
 -- each byte is a digit
 abbrev pub Digits : List ℕ → Type 0

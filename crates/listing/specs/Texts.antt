@@ -34,7 +34,8 @@ markText false = codes "."
 
 abbrev pub outcomeText : Outcome → List ℕ
 outcomeText (Refused e) = codes "refused " ++ decimal (numberOf e)
-outcomeText (Compared c) = tripleText (tripleOf (c .overlap)) ++ (codes " " ++ (columnsText (c .columns) ++ (codes " " ++ markText (c .equal))))
+outcomeText (Compared c) = tripleText (tripleOf (c .overlap)) ++
+    (codes " " ++ (columnsText (c .columns) ++ (codes " " ++ markText (c .equal))))
 
 -- i j ε p m residue quad mark, or i j refused 23
 abbrev pub lineText : PairLine → List ℕ
@@ -46,4 +47,5 @@ faultText f =
     codes "fault "
     ++ (decimal (f .layer)
     ++ (codes " "
-    ++ (decimal (f .number) ++ (codes " " ++ (decimal (f .sheet) ++ (codes " " ++ (decimal (f .field) ++ (codes " " ++ decimal (f .place)))))))))
+    ++ (decimal (f .number) ++
+    (codes " " ++ (decimal (f .sheet) ++ (codes " " ++ (decimal (f .field) ++ (codes " " ++ decimal (f .place)))))))))

@@ -43,5 +43,6 @@ below-off P x p l e = by-bits (bitAnd x P) 0 (λ i. bit-and x P i ∙ one i ∙ 
 -- the pivots of a fitting row lie above it
 pub above : (s : AffineSpace) (x p : ℕ) → Fitting s x p → s .pivots % 2 ^ suc p ≡ 0
 above s x p f =
-    none-low (suc p) (s .pivots) (λ i l. digit (λ b. bit (s .pivots) i ≡ b → b ≡ 0) (λ z. refl) (λ o. let g = f .below i o in absurd (omega arith))
+    none-low (suc p) (s .pivots)
+    (λ i l. digit (λ b. bit (s .pivots) i ≡ b → b ≡ 0) (λ z. refl) (λ o. let g = f .below i o in absurd (omega arith))
     (bit (s .pivots) i) (bit-lt (s .pivots) i) refl)

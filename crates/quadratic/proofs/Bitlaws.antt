@@ -1,7 +1,8 @@
 use mathlib.Core.Path.{_≡_, refl, sym, ap, ap₂, _∙_, fun-ext}
 use Prim.Native.Nat.{ℕ, zero, suc, _+_, _-_, _*_, _/_, _%_, _^_, _≤_, _<_}
 use mathlib.Core.Logic.{_≢_}
-use native.Mathlib.Nat.{lt-of-lt-of-le, zero-div, div-eq-of-lt, one-mul, add-zero, mod-one, mod-lt, mod-eq-of-lt, zero-lt-suc, lt-of-le-of-lt, add-comm}
+use native.Mathlib.Nat.{lt-of-lt-of-le, zero-div, div-eq-of-lt, one-mul, add-zero, mod-one, mod-lt, mod-eq-of-lt, zero-lt-suc}
+use native.Mathlib.Nat.{lt-of-le-of-lt, add-comm}
 use native.Mathlib.Decide.{decLt}
 use native.Mathlib.Omega.{arith}
 use native.Mathlib.Numerals.{add-one, one-add}
@@ -57,7 +58,8 @@ bit-or x y i =
 
 -- a bit of both
 pub bits-both : (x y i : ℕ) → bit (bitAnd x y) i ≡ 1 → (bit x i ≡ 1) × (bit y i ≡ 1)
-bits-both x y i h = digit₂ (λ a b. a * b ≡ 1 → (a ≡ 1) × (b ≡ 1)) (λ e. absurd (not-both 0 refl e)) (λ e. absurd (not-both 0 refl e)) (λ e. absurd (not-both 0 refl e)) (λ e. (refl, refl))
+bits-both x y i h = digit₂ (λ a b. a * b ≡ 1 → (a ≡ 1) × (b ≡ 1)) (λ e. absurd (not-both 0 refl e))
+    (λ e. absurd (not-both 0 refl e)) (λ e. absurd (not-both 0 refl e)) (λ e. (refl, refl))
     (bit x i) (bit y i) (bit-lt x i) (bit-lt y i) (sym (bit-and x y i) ∙ h)
 
 -- one more digit
@@ -111,7 +113,8 @@ unfolding bit
 bit-low n x i l =
     let j : ℕ = n - suc i in
     let e : n ≡ suc j + i = omega arith in
-    ap (λ k. x % 2 ^ k / 2 ^ i % 2) e ∙ ap (λ k. k % 2) (field x (suc j) i) ∙ ap (λ k. x / 2 ^ i % 2 ^ k % 2) (sym (add-one j)) ∙ mod-mod-pow (x / 2 ^ i) j 1
+    ap (λ k. x % 2 ^ k / 2 ^ i % 2) e ∙ ap (λ k. k % 2) (field x (suc j) i) ∙ ap (λ k. x / 2 ^ i % 2 ^ k % 2) (sym (add-one j))
+    ∙ mod-mod-pow (x / 2 ^ i) j 1
 
 pub bit-top : (n x : ℕ) → x < 2 ^ n → bit (2 ^ n + x) n ≡ 1
 unfolding bit

@@ -46,6 +46,7 @@ module _ {R : Type 0} {o : Ops R} (laws : RingLaws o) where
       ∙ sym (transfer laws (value s) (2 ^ ones (s .space .pivots)) (k .0) m (sym e ∙ ap (λ z. chosen omegas 1 z m) (k .1)))
   space-closed s (suc (suc a)) p m h l e = absurd (omega arith)
 
-  pub closed : (i : Intersection) (x : Scalar) → Bounded i x → embedded omegas (tripleOf x) ≡ total omegas i → embedded o (tripleOf x) ≡ total o i
+  pub closed : (i : Intersection) (x : Scalar) → Bounded i x → embedded omegas (tripleOf x) ≡ total omegas i
+      → embedded o (tripleOf x) ≡ total o i
   closed Empty x b e = ap (embedded o) b
   closed (Space s) x b e = space-closed s (x .epsilon) (x .power) (x .turn) (λ one. let p = b one in (p .0, p .1)) (x .digit) e

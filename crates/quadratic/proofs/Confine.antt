@@ -34,7 +34,8 @@ module _ (s s′ t : AffineSpace) (i : ℕ) (a : Agreeing s s′ t i) where
   pub agree-pivot : bit (t .pivots) i ≡ 1 → Agreeing s s′ t (i + 1)
   agree-pivot on = record {
     old = a .old;
-    agree = λ y j m l. below-next (λ j. bit (reduced (t .pivots) (row (t .rows)) y) j ≡ bit (t .shift) j) i (λ j l. a .agree y j m l) (here y) j l;
+    agree = λ y j m l. below-next (λ j. bit (reduced (t .pivots) (row (t .rows)) y) j ≡ bit (t .shift) j) i
+        (λ j l. a .agree y j m l) (here y) j l;
     kept = a .kept;
   }
     where
@@ -47,7 +48,8 @@ module _ (s s′ t : AffineSpace) (i : ℕ) (a : Agreeing s s′ t i) where
   module _ (w col : ℕ) (is : (p : ℕ) → bit col p ≡ bit (row (t .rows) p) i) (e : w ≡ bitXor col (2 ^ i)) where
     pub parity-is : (y : ℕ) → dot w y ≡ bit (reduced (t .pivots) (row (t .rows)) y) i
     parity-is y =
-        ap (λ x. dot x y) e ∙ dot-xor y ∙ ap (bitXor (dot col y)) (pow-dot y i) ∙ xor-comm (dot col y) (bit y i) ∙ sym (left-bit t i col is y)
+        ap (λ x. dot x y) e ∙ dot-xor y ∙ ap (bitXor (dot col y)) (pow-dot y i) ∙ xor-comm (dot col y) (bit y i)
+        ∙ sym (left-bit t i col is y)
       where
         dot-xor : (y : ℕ) → dot (bitXor col (2 ^ i)) y ≡ bitXor (dot col y) (dot (2 ^ i) y)
         dot-xor y = dot-comm (bitXor col (2 ^ i)) y ∙ dot-linear y col (2 ^ i) ∙ ap₂ bitXor (dot-comm y col) (dot-comm y (2 ^ i))
@@ -60,7 +62,8 @@ module _ (s s′ t : AffineSpace) (i : ℕ) (a : Agreeing s s′ t i) where
       kept = λ y m n. h .kept y (a .kept y m n) (parity-is y ∙ own t y i n ∙ sym eb);
     }
 
-    pub agree-cut : (o : Outcome) (s″ : AffineSpace) (b : ℕ) → b ≡ bit (t .shift) i → (o ≡ Empty → ⊥) → Cut o s′ s″ w b → Agreeing s s″ t (i + 1)
+    pub agree-cut : (o : Outcome) (s″ : AffineSpace) (b : ℕ) → b ≡ bit (t .shift) i → (o ≡ Empty → ⊥)
+        → Cut o s′ s″ w b → Agreeing s s″ t (i + 1)
     agree-cut Unchanged s″ b eb ne h =
         agree-restricted s″ b eb (record {
           old = λ y m. subst (λ x. Member x y) (h .0) m;
@@ -90,6 +93,7 @@ agree-all s s′ t i l a = record {
   first = a .old;
   second = λ y m.
       member t y (same-bits 48 (reduced (t .pivots) (row (t .rows)) y) (t .shift)
-      (xor-lt 48 y (combination (row (t .rows)) (bitAnd y (t .pivots))) (member-lt s′ y m) (comb-lt t y)) (t .inside) (λ j h. a .agree y j m (omega arith)));
+      (xor-lt 48 y (combination (row (t .rows)) (bitAnd y (t .pivots))) (member-lt s′ y m) (comb-lt t y))
+      (t .inside) (λ j h. a .agree y j m (omega arith)));
   all = a .kept;
 }

@@ -60,5 +60,6 @@ pub dot-pow : (x b : ℕ) → dot x (2 ^ b) ≡ bit x b
 dot-pow x b =
     let n = suc b in
     dot-comm x (2 ^ b) ∙ dot-inner n (2 ^ b) x (pow-lt (omega arith))
-    ∙ ap (λ s. s % 2) (ap (λ f. sum f n) (fun-ext (λ k. mul-comm (bit (2 ^ b) k) (bit x k))) ∙ inner-one (bit x) (bit (2 ^ b)) b n (omega arith) (bit-pow b) (λ k ne. bit-pow-other b k ne))
+    ∙ ap (λ s. s % 2) (ap (λ f. sum f n) (fun-ext (λ k. mul-comm (bit (2 ^ b) k) (bit x k)))
+    ∙ inner-one (bit x) (bit (2 ^ b)) b n (omega arith) (bit-pow b) (λ k ne. bit-pow-other b k ne))
     ∙ mod-eq-of-lt (bit-lt x b)

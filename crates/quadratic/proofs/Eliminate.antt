@@ -35,12 +35,15 @@ module _ (f : QuadraticForm) (live a : ℕ) (inside : live < 2 ^ 48) (on : bit l
   own : (D o : ℕ) → bit (f .odd) a ≡ o → 2 * o + 4 * bit (f .neg) a ≡ D → coef (f .odd) (f .neg) a ≡ D
   own D o e d = ap (λ b. 2 * b + 4 * bit (f .neg) a) e ∙ d
 
-  pub slope : (D : ℕ) → coef (f .odd) (f .neg) a ≡ D → (c : ℕ) → valueAt f (bitXor c (2 ^ a)) ≡ (valueAt f c + (D + 4 * dot (getD (f .coupling) a 0) c)) % 8
+  pub slope : (D : ℕ) → coef (f .odd) (f .neg) a ≡ D → (c : ℕ) → valueAt f (bitXor c (2 ^ a))
+      ≡ (valueAt f c + (D + 4 * dot (getD (f .coupling) a 0) c)) % 8
   slope D e c = slope-at f a c place ∙ ap (λ d. (valueAt f c + (d + 4 * dot (getD (f .coupling) a 0) c)) % 8) e
 
   -- a variable whose coefficient is 2 or 6
-  pub odd-left : (f₁ f′ : QuadraticForm) (d p r power : ℕ) → bit (f .odd) a ≡ 1 → d ≡ coef (f .odd) (f .neg) a → p ≡ getD (f .coupling) a 0 → r ≡ bitXor live (2 ^ a)
-      → ((c : ℕ) → valueAt f₁ c ≡ (valueAt f c + (1 + 6 * (d / 4))) % 8) → ((c : ℕ) → valueAt f′ c ≡ (valueAt f₁ c + (8 - d) * dot (bitAnd p r) c) % 8)
+  pub odd-left : (f₁ f′ : QuadraticForm) (d p r power : ℕ) → bit (f .odd) a ≡ 1 → d ≡ coef (f .odd) (f .neg) a
+      → p ≡ getD (f .coupling) a 0 → r ≡ bitXor live (2 ^ a)
+      → ((c : ℕ) → valueAt f₁ c ≡ (valueAt f c + (1 + 6 * (d / 4))) % 8)
+      → ((c : ℕ) → valueAt f′ c ≡ (valueAt f₁ c + (8 - d) * dot (bitAnd p r) c) % 8)
       → leftOf omegas f′ r (power + 1) ≡ leftOf omegas f live power
   odd-left f₁ f′ d p r power odd de pe re one law =
       let n = bit (f .neg) a in
@@ -50,13 +53,15 @@ module _ (f : QuadraticForm) (live a : ℕ) (inside : live < 2 ^ 48) (on : bit l
       let t : 8 - d ≡ 6 - 4 * n = omega (arith, e, ln) in
       ap (λ m. leftOf omegas f′ m (power + 1)) re
       ∙ root-out omega-laws power _ _
-      (odd-out omega-laws (valueAt f) live a (getD (f .coupling) a 0) (2 + 4 * n) on place (slope (2 + 4 * n) (own (2 + 4 * n) 1 odd refl)) (valueAt f₁) (valueAt f′) (1 + 6 * n) (6 - 4 * n)
+      (odd-out omega-laws (valueAt f) live a (getD (f .coupling) a 0) (2 + 4 * n) on place
+      (slope (2 + 4 * n) (own (2 + 4 * n) 1 odd refl)) (valueAt f₁) (valueAt f′) (1 + 6 * n) (6 - 4 * n)
       (λ c. one c ∙ ap (λ x. (valueAt f c + x) % 8) k)
       (λ c. law c ∙ ap₂ (λ x m. (valueAt f₁ c + x * dot m c) % 8) t (ap₂ bitAnd pe re)) (λ q x l. odd-base omega-laws n q x ln l))
 
   module _ (alone : bitAnd (getD (f .coupling) a 0) live ≡ 0) (even : bit (f .odd) a ≡ 0) where
     -- a variable coupled with no live one, whose coefficient is 0
-    pub lone-left : (r power : ℕ) → r ≡ bitXor live (2 ^ a) → coef (f .odd) (f .neg) a ≡ 0 → leftOf omegas f r (power + 2) ≡ leftOf omegas f live power
+    pub lone-left : (r power : ℕ) → r ≡ bitXor live (2 ^ a) → coef (f .odd) (f .neg) a ≡ 0 → leftOf omegas f r (power + 2)
+        ≡ leftOf omegas f live power
     lone-left r power re z =
         ap (λ m. leftOf omegas f m (power + 2)) re
         ∙ two-out omega-laws power _ _ (lone-out omega-laws (valueAt f) live a (getD (f .coupling) a 0) 0 on place (slope 0 z) alone refl)
@@ -66,7 +71,8 @@ module _ (f : QuadraticForm) (live a : ℕ) (inside : live < 2 ^ 48) (on : bit l
     dead-left power nz =
         let l = bit-lt (f .neg) a in
         let four : coef (f .odd) (f .neg) a ≡ 4 = omega (arith, nz, even, l) in
-        ap (omegas .times (rpow omegas power)) (lone-zero omega-laws (valueAt f) live a (getD (f .coupling) a 0) 4 on place (slope 4 four) alone refl)
+        ap (omegas .times (rpow omegas power))
+        (lone-zero omega-laws (valueAt f) live a (getD (f .coupling) a 0) 4 on place (slope 4 four) alone refl)
         ∙ CommFacts.times-nil (omega-laws .comm) (rpow omegas power)
 
 -- two numbers 0 or 4, as their common bits
@@ -98,15 +104,19 @@ module _ (f : QuadraticForm) (live a b : ℕ) (inside : live < 2 ^ 48) (on : bit
       let w = ap₂ bitAnd qe re in
       ap (λ m. leftOf omegas f′ m (power + 2)) re
       ∙ two-out omega-laws power _ _
-      (pair-out omega-laws (valueAt f) live a b (getD (f .coupling) a 0) (getD (f .coupling) b 0) α β on on′ pair-apart (set-below 48 live a inside on) (set-below 48 live b inside on′)
-      coupled (slope f live a inside on (4 * α) e) (slope f live b inside on′ (4 * β) e′) (valueAt f₁) (valueAt f₂) (valueAt f₃) (valueAt f′)
-      (λ c. one c ∙ ap (λ x. (valueAt f c + x) % 8) (ap₂ bitAnd (de ∙ e) (de′ ∙ e′) ∙ both-four α β (bit-lt (f .neg) a) (bit-lt (f .neg) b)))
+      (pair-out omega-laws (valueAt f) live a b (getD (f .coupling) a 0) (getD (f .coupling) b 0) α β on on′ pair-apart
+      (set-below 48 live a inside on) (set-below 48 live b inside on′)
+      coupled (slope f live a inside on (4 * α) e) (slope f live b inside on′ (4 * β) e′) (valueAt f₁) (valueAt f₂)
+      (valueAt f₃) (valueAt f′)
+      (λ c. one c ∙ ap (λ x. (valueAt f c + x) % 8)
+      (ap₂ bitAnd (de ∙ e) (de′ ∙ e′) ∙ both-four α β (bit-lt (f .neg) a) (bit-lt (f .neg) b)))
       (λ c. law₂ c ∙ ap₂ (λ x m. (valueAt f₁ c + x * dot m c) % 8) (de ∙ e) w)
       (λ c. law₃ c ∙ ap₂ (λ x m. (valueAt f₂ c + x * dot m c) % 8) (de′ ∙ e′) u)
       (λ c. law c ∙ ap₂ (λ m n. (valueAt f₃ c + 4 * (dot m c * dot n c)) % 8) u w))
 
 -- a step in which g variables go and the power rises by m
-pub stepped : (f f′ : QuadraticForm) (live live′ power power′ g m : ℕ) → 0 < g → g ≤ m → m ≤ 2 * g → Reduced f f′ live live′ power power′ g m
+pub stepped : (f f′ : QuadraticForm) (live live′ power power′ g m : ℕ) → 0 < g → g ≤ m → m ≤ 2 * g
+    → Reduced f f′ live live′ power power′ g m
     → Stepped f f′ live live′ power power′
 stepped f f′ live live′ power power′ g m l lo hi r =
     let n = r .count in
@@ -116,10 +126,12 @@ stepped f f′ live live′ power power′ g m l lo hi r =
 -- with no variable left the sum is one power of ω
 pub ended : (f : QuadraticForm) (live power : ℕ) → live ≡ 0 → leftOf omegas f live power ≡ exact omegas power (f .phase % 8)
 ended f live power z =
-    ap (λ m. leftOf omegas f m power) z ∙ ap (omegas .times (rpow omegas power)) (over-none (omega-laws .comm) _ 48 0 ∙ ap (wpow omegas) (value-zero f))
+    ap (λ m. leftOf omegas f m power) z
+    ∙ ap (omegas .times (rpow omegas power)) (over-none (omega-laws .comm) _ 48 0 ∙ ap (wpow omegas) (value-zero f))
 
 -- the sum over all strings, by their numbers, in any ring
-pub over-total : {R : Type 0} {o : Ops R} (laws : CommLaws o) (s : PhasedSpace) → over o (formPower o (s .form)) (s .space .pivots) 48 0 ≡ total o (Space s)
+pub over-total : {R : Type 0} {o : Ops R} (laws : CommLaws o) (s : PhasedSpace) → over o (formPower o (s .form)) (s .space .pivots) 48 0
+    ≡ total o (Space s)
 over-total {o = o} laws s =
     let P = s .space .pivots in
     over-numbered laws (formPower o (s .form)) P 48 0

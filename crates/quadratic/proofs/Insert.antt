@@ -15,13 +15,16 @@ use Rattle.quadratic.proofs.Lowest.{set-below}
 use Rattle.quadratic.specs.Echelon.{row, combination, reduced}
 use Rattle.quadratic.specs.Strings.{Member, Doubled}
 use Rattle.quadratic.specs.declared.affine.AffineSpace.{AffineSpace}
-use Rattle.quadratic.proofs.Linear.{Linear, linear-pick, bit-linear, and-linear, sum-linear, pick-linear, pick-xor, swap, back, move, cancel}
-use Rattle.quadratic.proofs.Laws.{Facts, comb-linear, comb-is, comb-pow, and-pow, and-twice, off-bit, red-linear, red-keep, facts, holds, member}
+use Rattle.quadratic.proofs.Linear.{Linear, linear-pick, bit-linear, and-linear, sum-linear, pick-linear, pick-xor, swap, back, move}
+use Rattle.quadratic.proofs.Linear.{cancel}
+use Rattle.quadratic.proofs.Laws.{Facts, comb-linear, comb-is, comb-pow, and-pow, and-twice, off-bit, red-linear, red-keep, facts, holds}
+use Rattle.quadratic.proofs.Laws.{member}
 
 bit-swap : (p q : ℕ) → bit (2 ^ q) p ≡ bit (2 ^ p) q
 bit-swap p q = sym (dot-pow (2 ^ q) p) ∙ dot-comm (2 ^ q) (2 ^ p) ∙ dot-pow (2 ^ p) q
 
-module _ (P : ℕ) (R : ℕ → ℕ) (h : ℕ) (f : Facts P R h) (g p : ℕ) (top : bit g p ≡ 1) (most : g < 2 ^ suc p) (place : p < 48) (off : bitAnd g P ≡ 0)
+module _ (P : ℕ) (R : ℕ → ℕ) (h : ℕ) (f : Facts P R h) (g p : ℕ) (top : bit g p ≡ 1) (most : g < 2 ^ suc p)
+    (place : p < 48) (off : bitAnd g P ≡ 0)
     (l : ℕ) (is : (q : ℕ) → bit l q ≡ bitXor (bit (R q) p) (bit (2 ^ p) q))
     (R′ : ℕ → ℕ) (rows : (q : ℕ) → R′ q ≡ bitXor (R q) (bit l q * g)) (P′ : ℕ) (pe : P′ ≡ bitXor P (2 ^ p)) where
   -- z without its bit p, by g
@@ -54,10 +57,12 @@ module _ (P : ℕ) (R : ℕ → ℕ) (h : ℕ) (f : Facts P R h) (g p : ℕ) (to
   -- g more changes no old pivot
   add-off : (x a : ℕ) → a < 2 → bitAnd (bitXor x (a * g)) P ≡ bitAnd x P
   add-off x a s =
-      and-linear P x (a * g) ∙ ap (bitXor (bitAnd x P)) (linear-pick (λ x. bitAnd x P) (and-linear P) a g s ∙ ap (λ z. a * z) off ∙ mul-zero a) ∙ xor-zero-r (bitAnd x P)
+      and-linear P x (a * g) ∙ ap (bitXor (bitAnd x P))
+      (linear-pick (λ x. bitAnd x P) (and-linear P) a g s ∙ ap (λ z. a * z) off ∙ mul-zero a) ∙ xor-zero-r (bitAnd x P)
 
   add-on : (x a : ℕ) → a < 2 → bit (bitXor x (a * g)) p ≡ bitXor (bit x p) a
-  add-on x a s = bit-linear p x (a * g) ∙ ap (bitXor (bit x p)) (linear-pick (λ x. bit x p) (bit-linear p) a g s ∙ ap (λ z. a * z) top ∙ mul-one a)
+  add-on x a s = bit-linear p x (a * g)
+      ∙ ap (bitXor (bit x p)) (linear-pick (λ x. bit x p) (bit-linear p) a g s ∙ ap (λ z. a * z) top ∙ mul-one a)
 
   -- ---- the new combination
 
@@ -68,7 +73,8 @@ module _ (P : ℕ) (R : ℕ → ℕ) (h : ℕ) (f : Facts P R h) (g p : ℕ) (to
   unfolding L
   L-linear =
       sum-linear (λ c. rid (combination R (bitAnd c P))) (λ c. bit c p * g)
-      (λ x y. ap rid (ap (combination R) (and-linear P x y) ∙ comb-linear R (bitAnd x P) (bitAnd y P)) ∙ rid-linear (combination R (bitAnd x P)) (combination R (bitAnd y P)))
+      (λ x y. ap rid (ap (combination R) (and-linear P x y) ∙ comb-linear R (bitAnd x P) (bitAnd y P))
+      ∙ rid-linear (combination R (bitAnd x P)) (combination R (bitAnd y P)))
       (pick-linear (λ c. bit c p) (bit-linear p) (λ c. bit-lt c p) g)
 
   L-pow : (q : ℕ) → R′ q ≡ L (2 ^ q)
@@ -76,7 +82,8 @@ module _ (P : ℕ) (R : ℕ → ℕ) (h : ℕ) (f : Facts P R h) (g p : ℕ) (to
   L-pow q =
       let a = bit (R q) p in
       let b = bit (2 ^ p) q in
-      rows q ∙ ap (λ b. bitXor (R q) (b * g)) (is q) ∙ ap (bitXor (R q)) (pick-xor a b g (bit-lt (R q) p) (bit-lt (2 ^ p) q)) ∙ sym (xor-assoc (R q) (a * g) (b * g))
+      rows q ∙ ap (λ b. bitXor (R q) (b * g)) (is q) ∙ ap (bitXor (R q)) (pick-xor a b g (bit-lt (R q) p) (bit-lt (2 ^ p) q))
+      ∙ sym (xor-assoc (R q) (a * g) (b * g))
       ∙ sym (ap₂ (λ x b. bitXor (rid x) (b * g)) (comb-pow P R h f q) (bit-swap p q))
 
   within′ : P′ < 2 ^ 48
@@ -87,19 +94,22 @@ module _ (P : ℕ) (R : ℕ → ℕ) (h : ℕ) (f : Facts P R h) (g p : ℕ) (to
   red-new y =
       let k = combination R (bitAnd y P) in
       ap (bitXor y) (comb-is L L-linear R′ L-pow (bitAnd y P′) (lt-of-le-of-lt (and-le-r y P′) within′)
-      ∙ ap₂ (λ x b. bitXor (rid (combination R x)) (b * g)) (and-assoc y P′ P ∙ ap (bitAnd y) sup) (bit-and y P′ p ∙ ap (λ b. bit y p * b) now-on ∙ mul-one (bit y p)))
+      ∙ ap₂ (λ x b. bitXor (rid (combination R x)) (b * g)) (and-assoc y P′ P ∙ ap (bitAnd y) sup)
+      (bit-and y P′ p ∙ ap (λ b. bit y p * b) now-on ∙ mul-one (bit y p)))
       ∙ ap (bitXor y) (xor-comm (rid k) (bit y p * g)) ∙ sym (xor-assoc y (bit y p * g) (rid k)) ∙ sym (rid-linear y k)
 
   low′ : (q : ℕ) → R′ q < 2 ^ suc q
   low′ q =
       rw (rows q) (xor-lt (suc q) (R q) (bit l q * g) (f .low q)
-      (digit (λ x. bit l q ≡ x → x * g < 2 ^ suc q) (λ z. rw zero-mul (pow-pos (suc q))) (λ o. rw one-mul (lt-of-lt-of-le most (pow-mono (after o)))) (bit l q) (bit-lt l q) refl))
+      (digit (λ x. bit l q ≡ x → x * g < 2 ^ suc q) (λ z. rw zero-mul (pow-pos (suc q)))
+      (λ o. rw one-mul (lt-of-lt-of-le most (pow-mono (after o)))) (bit l q) (bit-lt l q) refl))
     where
       after : bit l q ≡ 1 → suc p ≤ suc q
       after o =
           elim (decLt q p) [
             | yes i ↦
-                let z : bit l q ≡ 0 = is q ∙ ap₂ bitXor (bit-past (suc q) (R q) p (f .low q) (omega arith)) (bit-pow-other p q (omega arith)) in
+                let z : bit l q ≡ 0 = is q
+                ∙ ap₂ bitXor (bit-past (suc q) (R q) p (f .low q) (omega arith)) (bit-pow-other p q (omega arith)) in
                 absurd (omega arith)
             | no i ↦ omega arith
           ]
@@ -109,7 +119,8 @@ module _ (P : ℕ) (R : ℕ → ℕ) (h : ℕ) (f : Facts P R h) (g p : ℕ) (to
       elim (ℕ-discrete q p) [
         | yes i ↦ let o = ap (bit P′) i ∙ now-on in absurd (omega arith)
         | no ne ↦
-            let o : bit P q ≡ 0 = sym (xor-zero-r (bit P q)) ∙ ap (bitXor (bit P q)) (sym (bit-pow-other p q ne)) ∙ sym (ap (λ x. bit x q) pe ∙ bit-linear q P (2 ^ p)) ∙ z in
+            let o : bit P q ≡ 0 = sym (xor-zero-r (bit P q)) ∙ ap (bitXor (bit P q)) (sym (bit-pow-other p q ne))
+            ∙ sym (ap (λ x. bit x q) pe ∙ bit-linear q P (2 ^ p)) ∙ z in
             let r = f .idle q o in
             let m : bit l q ≡ 0 = is q ∙ ap₂ bitXor (ap (λ x. bit x p) r ∙ bit-zero p) (bit-pow-other p q ne) in
             rows q ∙ ap₂ (λ x y. bitXor x (y * g)) r m ∙ ap (bitXor 0) (zero-mul g)
@@ -118,7 +129,8 @@ module _ (P : ℕ) (R : ℕ → ℕ) (h : ℕ) (f : Facts P R h) (g p : ℕ) (to
   lead′ : (q : ℕ) → bitAnd (R′ q) P′ ≡ bitAnd (2 ^ q) P′
   lead′ q =
       split (R′ q) ∙ ap₂ (λ x b. bitXor x (b * 2 ^ p)) (ap (λ x. bitAnd x P) (rows q) ∙ add-off (R q) (bit l q) (bit-lt l q) ∙ f .lead q)
-      (ap (λ x. bit x p) (rows q) ∙ add-on (R q) (bit l q) (bit-lt l q) ∙ ap (bitXor (bit (R q) p)) (is q) ∙ sym (xor-assoc (bit (R q) p) (bit (R q) p) (bit (2 ^ p) q))
+      (ap (λ x. bit x p) (rows q) ∙ add-on (R q) (bit l q) (bit-lt l q) ∙ ap (bitXor (bit (R q) p)) (is q)
+      ∙ sym (xor-assoc (bit (R q) p) (bit (R q) p) (bit (2 ^ p) q))
       ∙ ap (λ x. bitXor x (bit (2 ^ p) q)) (xor-self (bit (R q) p)) ∙ xor-zero-l (bit (2 ^ p) q) ∙ sym (bit-swap p q))
       ∙ sym (split (2 ^ q))
 
@@ -130,7 +142,8 @@ module _ (P : ℕ) (R : ℕ → ℕ) (h : ℕ) (f : Facts P R h) (g p : ℕ) (to
     idle = idle′;
     inside = xor-lt 48 h (bit h p * g) (f .inside) (pick-lt 48 (bit h p) g (bit-lt h p) (lt-of-lt-of-le most (pow-mono place)));
     clean =
-        split (bitXor h (bit h p * g)) ∙ ap₂ (λ x b. bitXor x (b * 2 ^ p)) (add-off h (bit h p) (bit-lt h p) ∙ f .clean) (add-on h (bit h p) (bit-lt h p) ∙ xor-self (bit h p))
+        split (bitXor h (bit h p * g)) ∙ ap₂ (λ x b. bitXor x (b * 2 ^ p)) (add-off h (bit h p) (bit-lt h p) ∙ f .clean)
+        (add-on h (bit h p) (bit-lt h p) ∙ xor-self (bit h p))
         ∙ ap (bitXor 0) (zero-mul (2 ^ p));
   }
 
@@ -142,7 +155,8 @@ module _ (P : ℕ) (R : ℕ → ℕ) (h : ℕ) (f : Facts P R h) (g p : ℕ) (to
       let r = reduced P R y in
       let w : bitXor r g ≡ reduced P R (bitXor y g) = ap (bitXor r) (sym (red-keep P R h f g off)) ∙ sym (red-linear P R h f y g) in
       digit₂ (λ a b. bitXor r (a * g) ≡ bitXor h (b * g) → (r ≡ h) ⊎ (reduced P R (bitXor y g) ≡ h)) (λ e. inl (cancel r h (0 * g) e))
-      (λ e. inr (sym w ∙ ap (λ x. bitXor x g) (sym (xor-zero-r r) ∙ ap (bitXor r) (sym (zero-mul g)) ∙ e ∙ ap (bitXor h) (one-mul g)) ∙ back h g))
+      (λ e. inr (sym w ∙ ap (λ x. bitXor x g) (sym (xor-zero-r r) ∙ ap (bitXor r) (sym (zero-mul g)) ∙ e ∙ ap (bitXor h) (one-mul g))
+      ∙ back h g))
       (λ e. inr (sym w ∙ ap (bitXor r) (sym (one-mul g)) ∙ e ∙ ap (bitXor h) (zero-mul g) ∙ xor-zero-r h)) (λ e. inl (cancel r h (1 * g) e))
       (bit r p) (bit h p) (bit-lt r p) (bit-lt h p) (sym (red-new y) ∙ e)
 
@@ -167,14 +181,19 @@ insert-doubled s s′ g p l top most place off is rows pe he =
     let R = row (s .rows) in
     let f = facts s in
     record {
-      either = λ y m. elim (law-either P R (s .shift) f g p top most place off l is (row (s′ .rows)) rows (s′ .pivots) pe y (holds s′ y m ∙ he)) [
-        | inl e ↦ inl (member s y e)
-        | inr e ↦ inr (member s (bitXor y g) e)
-      ];
-      old = λ y m. member s′ y (law-old P R (s .shift) f g p top most place off l is (row (s′ .rows)) rows (s′ .pivots) pe y (holds s y m) ∙ sym he);
-      moved = λ y m. member s′ y (law-moved P R (s .shift) f g p top most place off l is (row (s′ .rows)) rows (s′ .pivots) pe y (holds s (bitXor y g) m) ∙ sym he);
+      either = λ y m. elim
+          (law-either P R (s .shift) f g p top most place off l is (row (s′ .rows)) rows (s′ .pivots) pe y (holds s′ y m ∙ he)) [
+            | inl e ↦ inl (member s y e)
+            | inr e ↦ inr (member s (bitXor y g) e)
+          ];
+      old = λ y m. member s′ y (law-old P R (s .shift) f g p top most place off l is (row (s′ .rows)) rows (s′ .pivots) pe y (holds s y m)
+          ∙ sym he);
+      moved = λ y m. member s′ y
+          (law-moved P R (s .shift) f g p top most place off l is (row (s′ .rows)) rows (s′ .pivots) pe y (holds s (bitXor y g) m)
+          ∙ sym he);
     }
 
 -- the rows with bit p, and p
-pub rows-with : (R : ℕ → ℕ) (p m l : ℕ) → ((q : ℕ) → bit m q ≡ bit (R q) p) → l ≡ bitXor m (2 ^ p) → (q : ℕ) → bit l q ≡ bitXor (bit (R q) p) (bit (2 ^ p) q)
+pub rows-with : (R : ℕ → ℕ) (p m l : ℕ) → ((q : ℕ) → bit m q ≡ bit (R q) p) → l ≡ bitXor m (2 ^ p) → (q : ℕ)
+    → bit l q ≡ bitXor (bit (R q) p) (bit (2 ^ p) q)
 rows-with R p m l is le q = ap (λ x. bit x q) le ∙ bit-linear q m (2 ^ p) ∙ ap (λ x. bitXor x (bit (2 ^ p) q)) (is q)

@@ -17,7 +17,8 @@ use Rattle.quadratic.specs.Bits.{flag}
 use Rattle.quadratic.specs.Echelon.{row, combination, reduced}
 use Rattle.quadratic.specs.Strings.{Member}
 use Rattle.quadratic.specs.declared.affine.AffineSpace.{AffineSpace}
-use Rattle.quadratic.proofs.Linear.{Linear, linear-zero, linear-pick, linear-span, span-linear, span-xor, bit-linear, dot-linear, and-linear, sum-linear, back, move, swap}
+use Rattle.quadratic.proofs.Linear.{Linear, linear-zero, linear-pick, linear-span, span-linear, span-xor, bit-linear, dot-linear}
+use Rattle.quadratic.proofs.Linear.{and-linear, sum-linear, back, move, swap}
 
 pub flag-lt : (b : Bool) → flag b < 2
 flag-lt true = omega arith
@@ -37,13 +38,16 @@ and-twice x m = and-assoc x m m ∙ ap (bitAnd x) (and-self m)
 
 pub and-pow : (p m : ℕ) → bitAnd (2 ^ p) m ≡ bit m p * 2 ^ p
 and-pow p m =
-    by-bits (bitAnd (2 ^ p) m) (bit m p * 2 ^ p) (λ k. bit-and (2 ^ p) m k ∙ one k ∙ sym (linear-pick (λ x. bit x k) (bit-linear k) (bit m p) (2 ^ p) (bit-lt m p)))
+    by-bits (bitAnd (2 ^ p) m) (bit m p * 2 ^ p)
+    (λ k. bit-and (2 ^ p) m k ∙ one k ∙ sym (linear-pick (λ x. bit x k) (bit-linear k) (bit m p) (2 ^ p) (bit-lt m p)))
   where
     one : (k : ℕ) → bit (2 ^ p) k * bit m k ≡ bit m p * bit (2 ^ p) k
     one k =
         elim (ℕ-discrete k p) [
-          | yes i ↦ ap (λ j. bit (2 ^ p) j * bit m j) i ∙ ap (λ b. b * bit m p) (bit-pow p) ∙ omega arith ∙ ap (λ b. bit m p * b) (sym (bit-pow p)) ∙ ap (λ j. bit m p * bit (2 ^ p) j) (sym i)
-          | no ne ↦ ap (λ b. b * bit m k) (bit-pow-other p k ne) ∙ simp (zero-mul) (sym (ap (λ b. bit m p * b) (bit-pow-other p k ne) ∙ mul-zero (bit m p)))
+          | yes i ↦ ap (λ j. bit (2 ^ p) j * bit m j) i ∙ ap (λ b. b * bit m p) (bit-pow p) ∙ omega arith
+              ∙ ap (λ b. bit m p * b) (sym (bit-pow p)) ∙ ap (λ j. bit m p * bit (2 ^ p) j) (sym i)
+          | no ne ↦ ap (λ b. b * bit m k) (bit-pow-other p k ne)
+              ∙ simp (zero-mul) (sym (ap (λ b. bit m p * b) (bit-pow-other p k ne) ∙ mul-zero (bit m p)))
         ]
 
 -- what agrees on a mask agrees on a part of it
@@ -69,13 +73,15 @@ span-low R c d (suc n) h = ap₂ (λ x b. bitXor x (b * R n)) (span-low R c d n 
 
 pub span-none : (R : ℕ → ℕ) (c n : ℕ) → ((k : ℕ) → k < n → bit c k ≡ 0) → span R c n ≡ 0
 span-none R c zero h = refl
-span-none R c (suc n) h = ap₂ (λ x b. bitXor x (b * R n)) (span-none R c n (λ k l. h k (omega arith))) (h n (omega arith)) ∙ ap (bitXor 0) (zero-mul (R n))
+span-none R c (suc n) h = ap₂ (λ x b. bitXor x (b * R n)) (span-none R c n (λ k l. h k (omega arith))) (h n (omega arith))
+    ∙ ap (bitXor 0) (zero-mul (R n))
 
 pub span-one : (R : ℕ → ℕ) (p n : ℕ) → p < n → span R (2 ^ p) n ≡ R p
 span-one R p zero l = absurd (omega arith)
 span-one R p (suc n) l =
     elim (decLt p n) [
-      | yes i ↦ ap₂ (λ x b. bitXor x (b * R n)) (span-one R p n i) (bit-pow-other p n (omega arith)) ∙ ap (bitXor (R p)) (zero-mul (R n)) ∙ xor-zero-r (R p)
+      | yes i ↦ ap₂ (λ x b. bitXor x (b * R n)) (span-one R p n i) (bit-pow-other p n (omega arith))
+          ∙ ap (bitXor (R p)) (zero-mul (R n)) ∙ xor-zero-r (R p)
       | no i ↦
           let e : n ≡ p = omega arith in
           ap₂ (λ x b. bitXor x (b * R n)) (span-none R (2 ^ p) n (λ k j. bit-pow-other p k (omega arith))) (ap (bit (2 ^ p)) e ∙ bit-pow p)
@@ -112,7 +118,8 @@ pub comb-is : (L : ℕ → ℕ) → Linear L → (R : ℕ → ℕ) → ((p : ℕ
 unfolding combination
 comb-is L l R e c h = span-linear L l R e c 48 h
 
-pub comb-map : (L M : ℕ → ℕ) → Linear L → Linear M → (R : ℕ → ℕ) → ((p : ℕ) → L (R p) ≡ M (2 ^ p)) → (c : ℕ) → c < 2 ^ 48 → L (combination R c) ≡ M c
+pub comb-map : (L M : ℕ → ℕ) → Linear L → Linear M → (R : ℕ → ℕ) → ((p : ℕ) → L (R p) ≡ M (2 ^ p)) → (c : ℕ)
+    → c < 2 ^ 48 → L (combination R c) ≡ M c
 unfolding combination
 comb-map L M l m R e c h = linear-span L l R c 48 ∙ span-linear M m (λ p. L (R p)) e c 48 h
 
@@ -150,7 +157,8 @@ module _ (P : ℕ) (R : ℕ → ℕ) (h : ℕ) (f : Facts P R h) where
 
   pub red-clean : (y : ℕ) → bitAnd (reduced P R y) P ≡ 0
   red-clean y =
-      and-linear P y (combination R (bitAnd y P)) ∙ ap (bitXor (bitAnd y P)) (comb-lead (bitAnd y P) (masked y) ∙ and-twice y P) ∙ xor-self (bitAnd y P)
+      and-linear P y (combination R (bitAnd y P)) ∙ ap (bitXor (bitAnd y P)) (comb-lead (bitAnd y P) (masked y) ∙ and-twice y P)
+      ∙ xor-self (bitAnd y P)
 
   pub red-keep : (z : ℕ) → bitAnd z P ≡ 0 → reduced P R z ≡ z
   red-keep z e = ap (λ c. bitXor z (combination R c)) e ∙ ap (bitXor z) (comb-zero R) ∙ xor-zero-r z
@@ -187,7 +195,8 @@ module _ (P : ℕ) (R : ℕ → ℕ) (h : ℕ) (f : Facts P R h) where
     pub resp-inside : bitAnd l P ≡ l
     resp-inside =
         by-bits (bitAnd l P) l (λ p. bit-and l P p
-        ∙ digit (λ b. bit P p ≡ b → bit l p * b ≡ bit l p) (λ z. mul-zero (bit l p) ∙ sym (resp-off p z)) (λ o. mul-one (bit l p)) (bit P p) (bit-lt P p) refl)
+        ∙ digit (λ b. bit P p ≡ b → bit l p * b ≡ bit l p) (λ z. mul-zero (bit l p) ∙ sym (resp-off p z))
+        (λ o. mul-one (bit l p)) (bit P p) (bit-lt P p) refl)
 
     pub resp-reduced : (y : ℕ) → dot w (reduced P R y) ≡ bitXor (dot w y) (dot l y)
     resp-reduced y =
@@ -202,7 +211,8 @@ module _ (P : ℕ) (R : ℕ → ℕ) (h : ℕ) (f : Facts P R h) where
 pub holds : (s : AffineSpace) (y : ℕ) → Member s y → reduced (s .pivots) (row (s .rows)) y ≡ s .shift
 holds s y m =
     let R = row (s .rows) in
-    member-of (s .pivots) R (s .shift) (facts s) y (m .0 % 2 ^ 48) (mod-lt (m .0) (pow-pos 48)) (m .1 ∙ ap (bitXor (s .shift)) (comb-low R (m .0)))
+    member-of (s .pivots) R (s .shift) (facts s) y (m .0 % 2 ^ 48) (mod-lt (m .0) (pow-pos 48))
+    (m .1 ∙ ap (bitXor (s .shift)) (comb-low R (m .0)))
 
 pub member : (s : AffineSpace) (y : ℕ) → reduced (s .pivots) (row (s .rows)) y ≡ s .shift → Member s y
 member s y e = (bitAnd y (s .pivots), member-is (s .pivots) (row (s .rows)) (s .shift) (facts s) y e)

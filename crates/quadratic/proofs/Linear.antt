@@ -13,7 +13,8 @@ use Rattle.quadratic.proofs.Dots.{dot-xor-r, dot-xor-l, dot-comm, dot-lt, dot-
 
 pub swap : (a b c d : ℕ) → bitXor (bitXor a b) (bitXor c d) ≡ bitXor (bitXor a c) (bitXor b d)
 swap a b c d =
-    xor-assoc a b (bitXor c d) ∙ ap (bitXor a) (sym (xor-assoc b c d) ∙ ap (λ x. bitXor x d) (xor-comm b c) ∙ xor-assoc c b d) ∙ sym (xor-assoc a c (bitXor b d))
+    xor-assoc a b (bitXor c d) ∙ ap (bitXor a) (sym (xor-assoc b c d) ∙ ap (λ x. bitXor x d) (xor-comm b c) ∙ xor-assoc c b d)
+    ∙ sym (xor-assoc a c (bitXor b d))
 
 pub back : (a b : ℕ) → bitXor (bitXor a b) b ≡ a
 back a b = xor-assoc a b b ∙ ap (bitXor a) (xor-self b) ∙ xor-zero-r a
@@ -42,13 +43,15 @@ linear-pick L l b x =
 
 pub linear-span : (L : ℕ → ℕ) → Linear L → (R : ℕ → ℕ) (c n : ℕ) → L (span R c n) ≡ span (λ p. L (R p)) c n
 linear-span L l R c zero = linear-zero L l
-linear-span L l R c (suc n) = l (span R c n) (bit c n * R n) ∙ ap₂ bitXor (linear-span L l R c n) (linear-pick L l (bit c n) (R n) (bit-lt c n))
+linear-span L l R c (suc n) = l (span R c n) (bit c n * R n)
+    ∙ ap₂ bitXor (linear-span L l R c n) (linear-pick L l (bit c n) (R n) (bit-lt c n))
 
 -- the single bits give the number
 pub span-pow : (c n : ℕ) → span (λ p. 2 ^ p) c n ≡ c % 2 ^ n
 span-pow c zero = sym (mod-one c)
 span-pow c (suc n) =
-    ap (λ x. bitXor x (bit c n * 2 ^ n)) (span-pow c n) ∙ xor-comm (c % 2 ^ n) (bit c n * 2 ^ n) ∙ xor-shifted (bit c n) n (c % 2 ^ n) (mod-lt c (pow-pos n))
+    ap (λ x. bitXor x (bit c n * 2 ^ n)) (span-pow c n) ∙ xor-comm (c % 2 ^ n) (bit c n * 2 ^ n)
+    ∙ xor-shifted (bit c n) n (c % 2 ^ n) (mod-lt c (pow-pos n))
     ∙ sym (mod-more c n)
 
 -- a linear map is known by its values at the single bits
@@ -58,7 +61,8 @@ span-linear L l R e c n h =
 
 pub pick-xor : (a b m : ℕ) → a < 2 → b < 2 → bitXor a b * m ≡ bitXor (a * m) (b * m)
 pick-xor a b m =
-    digit₂ (λ a b. bitXor a b * m ≡ bitXor (a * m) (b * m)) (simp zero-mul) (simp (zero-mul, one-mul) (sym (xor-zero-l m))) (simp (zero-mul, one-mul) (sym (xor-zero-r m)))
+    digit₂ (λ a b. bitXor a b * m ≡ bitXor (a * m) (b * m)) (simp zero-mul) (simp (zero-mul, one-mul) (sym (xor-zero-l m)))
+    (simp (zero-mul, one-mul) (sym (xor-zero-r m)))
     (simp (zero-mul, one-mul) (sym (xor-self m))) a b
 
 pub bit-linear : (i : ℕ) → Linear (λ x. bit x i)

@@ -28,14 +28,17 @@ lowest zero n p h = absurd (omega arith)
 lowest (suc k) n p h =
     let e = pow-suc 2 k in
     let t = trailingZeros k (n / 2) in
-    digit (λ r. n % 2 ≡ r → bit n (under r t) ≡ 1) (λ z. bit-half n t ∙ lowest k (n / 2) (omega arith) (omega arith)) (λ o. bit-first n ∙ o) (n % 2) (omega arith) refl
+    digit (λ r. n % 2 ≡ r → bit n (under r t) ≡ 1) (λ z. bit-half n t ∙ lowest k (n / 2) (omega arith) (omega arith))
+    (λ o. bit-first n ∙ o) (n % 2) (omega arith) refl
 
 pub least : (k n q : ℕ) → q < trailingZeros k n → bit n q ≡ 0
 unfolding trailingZeros
 least zero n q l = absurd (omega arith)
-least (suc k) n zero l = digit (λ r. n % 2 ≡ r → 0 < under r (trailingZeros k (n / 2)) → bit n 0 ≡ 0) (λ z l. bit-first n ∙ z) (λ o l. absurd (omega arith)) (n % 2) (omega arith) refl l
+least (suc k) n zero l = digit (λ r. n % 2 ≡ r → 0 < under r (trailingZeros k (n / 2)) → bit n 0 ≡ 0)
+    (λ z l. bit-first n ∙ z) (λ o l. absurd (omega arith)) (n % 2) (omega arith) refl l
 least (suc k) n (suc q) l =
-    digit (λ r. n % 2 ≡ r → suc q < under r (trailingZeros k (n / 2)) → bit n (suc q) ≡ 0) (λ z l. bit-half n q ∙ least k (n / 2) q (omega arith)) (λ o l. absurd (omega arith))
+    digit (λ r. n % 2 ≡ r → suc q < under r (trailingZeros k (n / 2)) → bit n (suc q) ≡ 0)
+    (λ z l. bit-half n q ∙ least k (n / 2) q (omega arith)) (λ o l. absurd (omega arith))
     (n % 2) (omega arith) refl l
 
 -- a set bit stands below the end

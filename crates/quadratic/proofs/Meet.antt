@@ -32,7 +32,8 @@ module _ (P S T : ℕ) where
       xor-lt 48 (bitOr S T) (bitAnd (bitOr S T) P) all (lt-of-le-of-lt (and-le-l (bitOr S T) P) all)
 
   pub gone-apart : bitAnd gone P ≡ 0
-  gone-apart = and-linear P (bitOr S T) (bitAnd (bitOr S T) P) ∙ ap (bitXor (bitAnd (bitOr S T) P)) (and-twice (bitOr S T) P) ∙ xor-self (bitAnd (bitOr S T) P)
+  gone-apart = and-linear P (bitOr S T) (bitAnd (bitOr S T) P) ∙ ap (bitXor (bitAnd (bitOr S T) P)) (and-twice (bitOr S T) P)
+      ∙ xor-self (bitAnd (bitOr S T) P)
 
   -- the bits of the pivots and of what is gone, together
   abbrev either : ℕ → ℕ
@@ -47,20 +48,23 @@ module _ (P S T : ℕ) where
   pub first-shown : bitAnd (bitXor P gone) S ≡ S
   first-shown =
       by-bits (bitAnd (bitXor P gone) S) S (λ k. bit-and (bitXor P gone) S k ∙ ap (λ b. b * bit S k) (together k)
-      ∙ digit₃ (λ p q r. bitXor p (bitXor ((q + r + q * r) % 2) (((q + r + q * r) % 2) * p)) * q ≡ q) refl refl refl refl refl refl refl refl
+      ∙ digit₃ (λ p q r. bitXor p (bitXor ((q + r + q * r) % 2) (((q + r + q * r) % 2) * p)) * q ≡ q) refl refl
+      refl refl refl refl refl refl
       (bit P k) (bit S k) (bit T k) (bit-lt P k) (bit-lt S k) (bit-lt T k))
 
   pub second-shown : bitAnd (bitXor P gone) T ≡ T
   second-shown =
       by-bits (bitAnd (bitXor P gone) T) T (λ k. bit-and (bitXor P gone) T k ∙ ap (λ b. b * bit T k) (together k)
-      ∙ digit₃ (λ p q r. bitXor p (bitXor ((q + r + q * r) % 2) (((q + r + q * r) % 2) * p)) * r ≡ r) refl refl refl refl refl refl refl refl
+      ∙ digit₃ (λ p q r. bitXor p (bitXor ((q + r + q * r) % 2) (((q + r + q * r) % 2) * p)) * r ≡ r) refl refl
+      refl refl refl refl refl refl
       (bit P k) (bit S k) (bit T k) (bit-lt P k) (bit-lt S k) (bit-lt T k))
 
 -- a difference modulo 8
 pub difference : (r s t : ℕ) → r < 8 → t < 8 → (r + t) % 8 ≡ s → r ≡ (s + (8 - t)) % 8
 difference r s t hr ht e = omega arith
 
-pub seen-difference : (r s t : ℕ → ℕ) (M : ℕ) → ((c : ℕ) → r c < 8) → ((c : ℕ) → t c < 8) → ((c : ℕ) → (r c + t c) % 8 ≡ s c) → Seen s M → Seen t M → Seen r M
+pub seen-difference : (r s t : ℕ → ℕ) (M : ℕ) → ((c : ℕ) → r c < 8) → ((c : ℕ) → t c < 8) → ((c : ℕ) → (r c + t c) % 8 ≡ s c)
+    → Seen s M → Seen t M → Seen r M
 seen-difference r s t M hr ht e hs hk c =
     difference (r c) (s c) (t c) (hr c) (ht c) (e c) ∙ ap₂ (λ x y. (x + (8 - y)) % 8) (hs c) (hk c)
     ∙ sym (difference (r (bitAnd c M)) (s (bitAnd c M)) (t (bitAnd c M)) (hr (bitAnd c M)) (ht (bitAnd c M)) (e (bitAnd c M)))

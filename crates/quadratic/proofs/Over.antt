@@ -53,13 +53,15 @@ even-string : (n mask x : ℕ) → bit mask n ≡ 1 → spread (suc n) mask (x +
 even-string n mask x on =
     let e : (x + x) % 2 ≡ 0 = omega arith in
     let h : (x + x) / 2 ≡ x = omega arith in
-    spread-on n mask (x + x) on ∙ ap₂ (λ b y. b * 2 ^ n + spread n mask y) e h ∙ ap (λ z. z + spread n mask x) (zero-mul (2 ^ n)) ∙ zero-add (spread n mask x)
+    spread-on n mask (x + x) on ∙ ap₂ (λ b y. b * 2 ^ n + spread n mask y) e h ∙ ap (λ z. z + spread n mask x) (zero-mul (2 ^ n))
+    ∙ zero-add (spread n mask x)
 
 odd-string : (n mask c x : ℕ) → bit mask n ≡ 1 → bitXor c (spread (suc n) mask (suc (x + x))) ≡ bitXor (bitXor c (2 ^ n)) (spread n mask x)
 odd-string n mask c x on =
     let e : suc (x + x) % 2 ≡ 1 = omega arith in
     let h : suc (x + x) / 2 ≡ x = omega arith in
-    ap (bitXor c) (spread-on n mask (suc (x + x)) on ∙ ap₂ (λ b y. b * 2 ^ n + spread n mask y) e h ∙ sym (xor-shifted 1 n (spread n mask x) (spread-lt n mask x))
+    ap (bitXor c) (spread-on n mask (suc (x + x)) on ∙ ap₂ (λ b y. b * 2 ^ n + spread n mask y) e h
+    ∙ sym (xor-shifted 1 n (spread n mask x) (spread-lt n mask x))
     ∙ ap (λ z. bitXor z (spread n mask x)) (one-mul (2 ^ n)))
     ∙ sym (xor-assoc c (2 ^ n) (spread n mask x))
 
@@ -84,7 +86,8 @@ module _ {R : Type 0} {o : Ops R} (laws : CommLaws o) where
   over-same f g mask (suc n) c h p =
       elim (ℕ-discrete (bit mask n) 1) [
         | yes on ↦
-            over-on f mask n c on ∙ ap₂ _⊕_ (over-same f g mask n c h p) (over-same f g mask n (bitXor c (2 ^ n)) h (part-more mask c n on p))
+            over-on f mask n c on ∙ ap₂ _⊕_ (over-same f g mask n c h p)
+            (over-same f g mask n (bitXor c (2 ^ n)) h (part-more mask c n on p))
             ∙ sym (over-on g mask n c on)
         | no off ↦ over-off f mask n c off ∙ over-same f g mask n c h p ∙ sym (over-off g mask n c off)
       ]
@@ -95,7 +98,8 @@ module _ {R : Type 0} {o : Ops R} (laws : CommLaws o) where
   over-plus f g mask (suc n) c =
       elim (ℕ-discrete (bit mask n) 1) [
         | yes on ↦
-            over-on _ mask n c on ∙ ap₂ _⊕_ (over-plus f g mask n c) (over-plus f g mask n (bitXor c (2 ^ n))) ∙ CommFacts.middle laws _ _ _ _
+            over-on _ mask n c on ∙ ap₂ _⊕_ (over-plus f g mask n c) (over-plus f g mask n (bitXor c (2 ^ n)))
+            ∙ CommFacts.middle laws _ _ _ _
             ∙ sym (ap₂ _⊕_ (over-on f mask n c on) (over-on g mask n c on))
         | no off ↦ over-off _ mask n c off ∙ over-plus f g mask n c ∙ sym (ap₂ _⊕_ (over-off f mask n c off) (over-off g mask n c off))
       ]
@@ -106,7 +110,8 @@ module _ {R : Type 0} {o : Ops R} (laws : CommLaws o) where
   over-times k f mask (suc n) c =
       elim (ℕ-discrete (bit mask n) 1) [
         | yes on ↦
-            over-on _ mask n c on ∙ ap₂ _⊕_ (over-times k f mask n c) (over-times k f mask n (bitXor c (2 ^ n))) ∙ sym (laws .times-plus k _ _)
+            over-on _ mask n c on ∙ ap₂ _⊕_ (over-times k f mask n c) (over-times k f mask n (bitXor c (2 ^ n)))
+            ∙ sym (laws .times-plus k _ _)
             ∙ ap (_⊗_ k) (sym (over-on f mask n c on))
         | no off ↦ over-off _ mask n c off ∙ over-times k f mask n c ∙ ap (_⊗_ k) (sym (over-off f mask n c off))
       ]
@@ -165,7 +170,8 @@ module _ {R : Type 0} {o : Ops R} (laws : CommLaws o) where
             let same : bit mask′ n ≡ bit mask n = undropped mask a n (λ e. ne (sym e)) in
             elim (ℕ-discrete (bit mask n) 1) [
               | yes s ↦
-                  over-on f mask n c s ∙ ap₂ _⊕_ (over-out f mask a n c on (omega arith)) (over-out f mask a n (bitXor c (2 ^ n)) on (omega arith))
+                  over-on f mask n c s
+                  ∙ ap₂ _⊕_ (over-out f mask a n c on (omega arith)) (over-out f mask a n (bitXor c (2 ^ n)) on (omega arith))
                   ∙ sym (over-on _ mask′ n c (same ∙ s))
               | no s ↦ over-off f mask n c s ∙ over-out f mask a n c on (omega arith) ∙ sym (over-off _ mask′ n c (λ o. s (sym same ∙ o)))
             ]
@@ -196,11 +202,13 @@ module _ {R : Type 0} {o : Ops R} (laws : CommLaws o) where
             let g = λ (x : ℕ). f (bitXor c (spread (suc n) mask x)) in
             over-on f mask n c on ∙ ap₂ _⊕_ (over-numbered f mask n c) (over-numbered f mask n (bitXor c (2 ^ n)))
             ∙ sym (Sums.sum-plus laws _ _ (2 ^ k))
-            ∙ Sums.sum-same laws _ _ (2 ^ k) (λ x l. ap₂ _⊕_ (ap (λ z. f (bitXor c z)) (sym (even-string n mask x on))) (ap f (sym (odd-string n mask c x on))))
+            ∙ Sums.sum-same laws _ _ (2 ^ k)
+            (λ x l. ap₂ _⊕_ (ap (λ z. f (bitXor c z)) (sym (even-string n mask x on))) (ap f (sym (odd-string n mask c x on))))
             ∙ sym (sum-pairs g (2 ^ k)) ∙ ap (sum-to o g) double
         | no off ↦
             let k = sum (bit mask) n in
             let z : bit mask n ≡ 0 = let l = bit-lt mask n in omega arith in
-            over-off f mask n c off ∙ over-numbered f mask n c ∙ Sums.sum-same laws _ _ (2 ^ k) (λ x l. ap (λ y. f (bitXor c y)) (sym (spread-off n mask x off)))
+            over-off f mask n c off ∙ over-numbered f mask n c
+            ∙ Sums.sum-same laws _ _ (2 ^ k) (λ x l. ap (λ y. f (bitXor c y)) (sym (spread-off n mask x off)))
             ∙ ap (sum-to o _) (sym (ap (λ b. 2 ^ (k + b)) z ∙ ap (λ j. 2 ^ j) (add-zero k)))
       ]

@@ -13,8 +13,10 @@ use Rattle.quadratic.proofs.Laws.{holds, member}
 
 pub phase-in : (s : PhasedSpace) (y : ℕ) → Member (s .space) y → phase s y ≡ Some (valueAt (s .form) y)
 unfolding phase
-phase-in s y m = cond-true (eqb (reduced (s .space .pivots) (row (s .space .rows)) y) (s .space .shift)) (Some (valueAt (s .form) y)) None (eq-eqb _ _ (holds (s .space) y m))
+phase-in s y m = cond-true (eqb (reduced (s .space .pivots) (row (s .space .rows)) y) (s .space .shift))
+    (Some (valueAt (s .form) y)) None (eq-eqb _ _ (holds (s .space) y m))
 
 pub phase-out : (s : PhasedSpace) (y : ℕ) → (Member (s .space) y → ⊥) → phase s y ≡ None
 unfolding phase
-phase-out s y n = cond-false (eqb (reduced (s .space .pivots) (row (s .space .rows)) y) (s .space .shift)) (Some (valueAt (s .form) y)) None (ne-eqb _ _ (λ e. n (member (s .space) y e)))
+phase-out s y n = cond-false (eqb (reduced (s .space .pivots) (row (s .space .rows)) y) (s .space .shift))
+    (Some (valueAt (s .form) y)) None (ne-eqb _ _ (λ e. n (member (s .space) y e)))

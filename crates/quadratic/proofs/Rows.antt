@@ -10,19 +10,23 @@ use lib.Pow.{pow-pos, pow-mono}
 use Rattle.quadratic.specs.Bits.{bit, dot, inner, RowsXor}
 use Rattle.quadratic.specs.Quadratic.{quad, coef, link}
 use Rattle.quadratic.proofs.Bitlaws.{digit, digit₂, digit₃, bit-lt, bit-xor, bit-and, bit-zero, dot-inner}
-use Rattle.quadratic.proofs.Algebra.{Turns, turn-two, turn-four, add-parity, add-product, add8, four, shift, shift-bit, polar, cross, cross-rows, sum-parity, quad-zero}
+use Rattle.quadratic.proofs.Algebra.{Turns, turn-two, turn-four, add-parity, add-product, add8, four, shift, shift-bit, polar, cross}
+use Rattle.quadratic.proofs.Algebra.{cross-rows, sum-parity, quad-zero}
 
 -- ---- one mask
 
 pub coef-four : (odd neg mask k : ℕ) → coef odd (bitXor neg mask) k % 8 ≡ (coef odd neg k + 4 * bit mask k) % 8
 coef-four odd neg mask k =
-    rw bit-xor (digit₂ (λ n m. (2 * bit odd k + 4 * ((n + m) % 2)) % 8 ≡ (2 * bit odd k + 4 * n + 4 * m) % 8) (omega arith) (omega arith) (omega arith) (omega arith)
+    rw bit-xor (digit₂ (λ n m. (2 * bit odd k + 4 * ((n + m) % 2)) % 8 ≡ (2 * bit odd k + 4 * n + 4 * m) % 8)
+    (omega arith) (omega arith) (omega arith) (omega arith)
     (bit neg k) (bit mask k) (bit-lt neg k) (bit-lt mask k))
 
 pub coef-two : (odd neg mask k : ℕ) → coef (bitXor odd mask) (bitXor neg (bitAnd mask odd)) k % 8 ≡ (coef odd neg k + 2 * bit mask k) % 8
 coef-two odd neg mask k =
-    ap₂ (λ o n. (2 * o + 4 * n) % 8) (bit-xor odd mask k) (bit-xor neg (bitAnd mask odd) k ∙ ap (λ a. (bit neg k + a) % 2) (bit-and mask odd k))
-    ∙ digit₃ (λ o n m. (2 * ((o + m) % 2) + 4 * ((n + m * o) % 2)) % 8 ≡ (2 * o + 4 * n + 2 * m) % 8) refl refl refl refl refl refl refl refl
+    ap₂ (λ o n. (2 * o + 4 * n) % 8) (bit-xor odd mask k)
+    (bit-xor neg (bitAnd mask odd) k ∙ ap (λ a. (bit neg k + a) % 2) (bit-and mask odd k))
+    ∙ digit₃ (λ o n m. (2 * ((o + m) % 2) + 4 * ((n + m * o) % 2)) % 8 ≡ (2 * o + 4 * n + 2 * m) % 8) refl refl
+    refl refl refl refl refl refl
     (bit odd k) (bit neg k) (bit mask k) (bit-lt odd k) (bit-lt neg k) (bit-lt mask k)
 
 -- ---- rows
@@ -50,18 +54,22 @@ within48 dim mask l h = lt-of-lt-of-le h (pow-mono {i = dim} {j = 48} l)
 -- ---- parities
 
 module _ (dim phase odd neg : ℕ) (t : List ℕ) (mask c : ℕ) (h : mask < 2 ^ dim) where
-  pub value-four : quad phase (coef odd (bitXor neg mask)) (link t) (bit c) dim % 8 ≡ (quad phase (coef odd neg) (link t) (bit c) dim % 8 + 4 * dot mask c) % 8
+  pub value-four : quad phase (coef odd (bitXor neg mask)) (link t) (bit c) dim % 8
+      ≡ (quad phase (coef odd neg) (link t) (bit c) dim % 8 + 4 * dot mask c) % 8
   value-four =
       let e = dot-inner dim mask c h in
-      let v = add-parity phase (coef odd neg) (coef odd (bitXor neg mask)) (link t) (link t) (bit c) (bit-lt c) 4 0 turn-four (bit mask) (bit-lt mask)
+      let v = add-parity phase (coef odd neg) (coef odd (bitXor neg mask)) (link t) (link t) (bit c)
+      (bit-lt c) 4 0 turn-four (bit mask) (bit-lt mask)
       (λ k. rw zero-mul (omega arith)) dim (λ k i. coef-four odd neg mask k) (λ k b i. simp (zero-mul, add-zero)) in
       rw e (omega (arith, v))
 
   pub value-two : (t′ : List ℕ) → RowsXor t t′ mask mask
-      → quad phase (coef (bitXor odd mask) (bitXor neg (bitAnd mask odd))) (link t′) (bit c) dim % 8 ≡ (quad phase (coef odd neg) (link t) (bit c) dim % 8 + 2 * dot mask c) % 8
+      → quad phase (coef (bitXor odd mask) (bitXor neg (bitAnd mask odd))) (link t′) (bit c) dim % 8
+      ≡ (quad phase (coef odd neg) (link t) (bit c) dim % 8 + 2 * dot mask c) % 8
   value-two t′ x =
       let e = dot-inner dim mask c h in
-      let v = add-parity phase (coef odd neg) (coef (bitXor odd mask) (bitXor neg (bitAnd mask odd))) (link t) (link t′) (bit c) (bit-lt c) 2 1 turn-two (bit mask) (bit-lt mask)
+      let v = add-parity phase (coef odd neg) (coef (bitXor odd mask) (bitXor neg (bitAnd mask odd))) (link t)
+      (link t′) (bit c) (bit-lt c) 2 1 turn-two (bit mask) (bit-lt mask)
       (λ k. rw one-mul (bit-lt mask k)) dim (λ k i. coef-two odd neg mask k)
       (λ k b i. rw one-mul (omega (arith, link-xor t t′ mask mask x k b))) in
       rw e (omega (arith, v))
@@ -71,9 +79,11 @@ module _ (dim phase odd neg : ℕ) (t : List ℕ) (mask c : ℕ) (h : mask < 2 ^
 
   pub square-two : (t′ : List ℕ) → RowsXor t t′ mask mask → ((a b : ℕ) → link t a b ≡ link t b a) → (a b : ℕ) → link t′ a b ≡ link t′ b a
   square-two t′ x sq a b =
-      link-xor t t′ mask mask x a b ∙ ap₂ (λ p q. (p + q) % 2) (sq a b) (mul-comm (bit mask a) (bit mask b)) ∙ sym (link-xor t t′ mask mask x b a)
+      link-xor t t′ mask mask x a b ∙ ap₂ (λ p q. (p + q) % 2) (sq a b) (mul-comm (bit mask a) (bit mask b))
+      ∙ sym (link-xor t t′ mask mask x b a)
 
-  pub own-two : (t′ : List ℕ) → RowsXor t t′ mask mask → ((a : ℕ) → link t a a ≡ bit odd a) → (a : ℕ) → link t′ a a ≡ bit (bitXor odd mask) a
+  pub own-two : (t′ : List ℕ) → RowsXor t t′ mask mask → ((a : ℕ) → link t a a ≡ bit odd a) → (a : ℕ) → link t′ a a
+      ≡ bit (bitXor odd mask) a
   own-two t′ x own a =
       link-xor t t′ mask mask x a a ∙ ap (λ p. (p + bit mask a * bit mask a) % 2) (own a)
       ∙ own-digit (bit odd a) (bit mask a) (bit-lt odd a) (bit-lt mask a) ∙ sym (bit-xor odd mask a)
@@ -106,13 +116,17 @@ module _ (dim phase odd neg : ℕ) (t t₁ t₂ : List ℕ) (u v : ℕ) (x : Row
   inside-both hu hv l = inside-xor t₁ t₂ v u y dim hu (inside-xor t t₁ u v x dim hv l)
 
   pub value-product : (c : ℕ) → u < 2 ^ dim → v < 2 ^ dim
-      → quad phase (coef odd (bitXor neg (bitAnd u v))) (link t₂) (bit c) dim % 8 ≡ (quad phase (coef odd neg) (link t) (bit c) dim % 8 + 4 * (dot u c * dot v c)) % 8
+      → quad phase (coef odd (bitXor neg (bitAnd u v))) (link t₂) (bit c) dim % 8
+      ≡ (quad phase (coef odd neg) (link t) (bit c) dim % 8 + 4 * (dot u c * dot v c)) % 8
   value-product c hu hv =
-      let z = add-product phase (coef odd neg) (coef odd (bitXor neg (bitAnd u v))) (link t) (link t₂) (bit c) (bit-lt c) (bit u) (bit v) (bit-lt u) (bit-lt v) dim
-      (λ k i. coef-four odd neg (bitAnd u v) k ∙ ap (λ m. (coef odd neg k + 4 * m) % 8) (bit-and u v k)) (λ k b i. omega (arith, link-both k b)) in
+      let z = add-product phase (coef odd neg) (coef odd (bitXor neg (bitAnd u v))) (link t) (link t₂) (bit c)
+      (bit-lt c) (bit u) (bit v) (bit-lt u) (bit-lt v) dim
+      (λ k i. coef-four odd neg (bitAnd u v) k ∙ ap (λ m. (coef odd neg k + 4 * m) % 8) (bit-and u v k))
+      (λ k b i. omega (arith, link-both k b)) in
       let q = quad phase (coef odd neg) (link t) (bit c) dim in
       z ∙ product-parity q (inner (bit u) (bit c) dim) (inner (bit v) (bit c) dim)
-      ∙ ap₂ (λ a b. (q + 4 * (a * b)) % 8) (sym (dot-inner dim u c hu)) (sym (dot-inner dim v c hv)) ∙ add8 q (q % 8) _ _ (sym (mod-mod q 8)) refl
+      ∙ ap₂ (λ a b. (q + 4 * (a * b)) % 8) (sym (dot-inner dim u c hu)) (sym (dot-inner dim v c hv))
+      ∙ add8 q (q % 8) _ _ (sym (mod-mod q 8)) refl
 
 -- ---- a form shifted by u
 
@@ -121,7 +135,8 @@ pub value-shift : (dim phase odd neg : ℕ) (t : List ℕ) (u w c : ℕ) → ((a
     → quad (quad phase (coef odd neg) (link t) (bit u) dim % 8) (coef odd (bitXor neg w)) (link t) (bit c) dim % 8
     ≡ quad phase (coef odd neg) (link t) (bit (bitXor c u)) dim % 8
 value-shift dim phase odd neg t u w c inside sq own hw =
-    shift phase (quad phase (coef odd neg) (link t) (bit u) dim % 8) dim (coef odd neg) (coef odd (bitXor neg w)) (bit odd) (bit neg) (bit w) (bit c) (bit u) (bit (bitXor c u)) (link t)
+    shift phase (quad phase (coef odd neg) (link t) (bit u) dim % 8) dim (coef odd neg) (coef odd (bitXor neg w))
+    (bit odd) (bit neg) (bit w) (bit c) (bit u) (bit (bitXor c u)) (link t)
     (bit-lt c) (bit-lt u) (bit-lt (bitXor c u)) (bit-xor c u) (λ k. refl) (λ a b i j. sq a b) (λ a i. own a)
     (mod-mod (quad phase (coef odd neg) (link t) (bit u) dim) 8) (λ k i. coef-four odd neg w k)
     (λ k i. omega (arith, hw k i, dot-inner dim (getD t k 0) u (inside k)))
@@ -129,16 +144,19 @@ value-shift dim phase odd neg t u w c inside sq own hw =
 -- ---- the bilinear form
 
 pub value-polar : (dim phase odd neg : ℕ) (t : List ℕ) (e w c : ℕ) → ((a : ℕ) → getD t a 0 < 2 ^ dim)
-    → ((a b : ℕ) → link t a b ≡ link t b a) → ((a : ℕ) → link t a a ≡ bit odd a) → w < 2 ^ dim → ((a : ℕ) → a < dim → bit w a ≡ dot (getD t a 0) e)
+    → ((a b : ℕ) → link t a b ≡ link t b a) → ((a : ℕ) → link t a a ≡ bit odd a) → w < 2 ^ dim
+    → ((a : ℕ) → a < dim → bit w a ≡ dot (getD t a 0) e)
     → (quad phase (coef odd neg) (link t) (bit (bitXor c e)) dim + phase) % 8
     ≡ (quad phase (coef odd neg) (link t) (bit c) dim + quad phase (coef odd neg) (link t) (bit e) dim + 4 * dot w c) % 8
 value-polar dim phase odd neg t e w c inside sq own hw hb =
     let D = coef odd neg in
     let J = link t in
-    let p = polar (bit c) (bit e) (bit (bitXor c e)) (bit-lt c) (bit-lt e) (bit-lt (bitXor c e)) (bit-xor c e) phase D (bit odd) (bit neg) J (λ k. refl) dim in
+    let p = polar (bit c) (bit e) (bit (bitXor c e)) (bit-lt c) (bit-lt e) (bit-lt (bitXor c e)) (bit-xor c e) phase D
+    (bit odd) (bit neg) J (λ k. refl) dim in
     let r = cross-rows J (bit odd) (bit c) (bit e) (bit-lt c) (bit-lt e) dim (λ a b i j. sq a b) (λ a i. own a) in
     let s = sum-parity (λ a. bit w a * bit c a) (λ a. bit c a * inner (J a) (bit e) dim) dim
-    (λ a i. shift-bit (bit w a) (inner (J a) (bit e) dim) (bit c a) (bit-lt c a) (omega (arith, hb a i, dot-inner dim (getD t a 0) e (inside a)))) in
+    (λ a i. shift-bit (bit w a) (inner (J a) (bit e) dim) (bit c a) (bit-lt c a)
+    (omega (arith, hb a i, dot-inner dim (getD t a 0) e (inside a)))) in
     let z : cross J (bit odd) (bit c) (bit e) dim % 2 ≡ dot w c % 2 =
     ap (λ x. x % 2) r ∙ sym s ∙ sym (mod-mod (inner (bit w) (bit c) dim) 2) ∙ ap (λ x. x % 2) (sym (dot-inner dim w c hw)) in
     p ∙ add8 q q (4 * cross J (bit odd) (bit c) (bit e) dim) (4 * dot w c) refl (four (cross J (bit odd) (bit c) (bit e) dim) (dot w c) z)

@@ -31,7 +31,8 @@ pub same-strings : (s t : PhasedSpace) → SamePhases s t → SameStrings (s .sp
 same-strings s t h = (same-members s t h, same-members t s (λ y. sym (h y)))
 
 -- at the string with the coordinates of c the form has its value at c
-pub same-values : (s t : PhasedSpace) → SamePhases s t → s .space .pivots ≡ t .space .pivots → (c : ℕ) → valueAt (s .form) c ≡ valueAt (t .form) c
+pub same-values : (s t : PhasedSpace) → SamePhases s t → s .space .pivots ≡ t .space .pivots → (c : ℕ)
+    → valueAt (s .form) c ≡ valueAt (t .form) c
 same-values s t h e c =
     let P = s .space .pivots in
     let k = bitAnd c P in
@@ -47,7 +48,8 @@ same-values s t h e c =
     some e = cc
 
 -- and the converse
-pub same-phases : (s t : PhasedSpace) → SameStrings (s .space) (t .space) → ((c : ℕ) → valueAt (s .form) c ≡ valueAt (t .form) c) → SamePhases s t
+pub same-phases : (s t : PhasedSpace) → SameStrings (s .space) (t .space) → ((c : ℕ) → valueAt (s .form) c ≡ valueAt (t .form) c)
+    → SamePhases s t
 same-phases s t strings values y =
     elim (ℕ-discrete (reduced (s .space .pivots) (row (s .space .rows)) y) (s .space .shift)) [
       | yes i ↦

@@ -32,13 +32,15 @@ module _ (s : AffineSpace) (i col : ℕ) (is : (p : ℕ) → bit col p ≡ bit (
   -- the bit that is left at the position
   pub left-bit : (y : ℕ) → bit (reduced (s .pivots) (row (s .rows)) y) i ≡ bitXor (bit y i) (dot col y)
   left-bit y =
-      sym (pow-dot (reduced (s .pivots) (row (s .rows)) y) i) ∙ resp-reduced (s .pivots) (row (s .rows)) (s .shift) (facts s) (2 ^ i) col by-dot y
+      sym (pow-dot (reduced (s .pivots) (row (s .rows)) y) i)
+      ∙ resp-reduced (s .pivots) (row (s .rows)) (s .shift) (facts s) (2 ^ i) col by-dot y
       ∙ ap (λ x. bitXor x (dot col y)) (pow-dot y i)
 
   -- a string of the space has there what its pivots say
   pub own-bit : (y : ℕ) → Member s y → bitXor (bit y i) (bitXor (dot col y) (bit (s .shift) i)) ≡ 0
   own-bit y m =
-      sym (xor-assoc (bit y i) (dot col y) (bit (s .shift) i)) ∙ ap (λ x. bitXor x (bit (s .shift) i)) (sym (left-bit y) ∙ ap (λ x. bit x i) (holds s y m))
+      sym (xor-assoc (bit y i) (dot col y) (bit (s .shift) i))
+      ∙ ap (λ x. bitXor x (bit (s .shift) i)) (sym (left-bit y) ∙ ap (λ x. bit x i) (holds s y m))
       ∙ xor-self (bit (s .shift) i)
 
 -- variable i replaced by a parity of pivots and a constant
@@ -68,14 +70,16 @@ module _ (v v′ : ℕ → ℕ) (P left i col β : ℕ) (law : (c : ℕ) → v�
   unfolding M M′
   M′-other k ne =
       bit-linear k P (bitXor left (2 ^ i))
-      ∙ ap (bitXor (bit P k)) (bit-linear k left (2 ^ i) ∙ ap (bitXor (bit left k)) (bit-pow-other i k ne) ∙ xor-zero-r (bit left k)) ∙ sym (bit-linear k P left)
+      ∙ ap (bitXor (bit P k)) (bit-linear k left (2 ^ i) ∙ ap (bitXor (bit left k)) (bit-pow-other i k ne) ∙ xor-zero-r (bit left k))
+      ∙ sym (bit-linear k P left)
 
   -- the pivots are among the variables that stay
   P-M′ : bitAnd P M′ ≡ P
   unfolding M′
   P-M′ =
       and-xor P P (bitXor left (2 ^ i))
-      ∙ ap₂ bitXor (and-self P) (and-xor P left (2 ^ i) ∙ ap₂ bitXor (and-comm P left ∙ apart) (and-comm P (2 ^ i) ∙ and-pow i P ∙ ap (λ b. b * 2 ^ i) off ∙ zero-mul (2 ^ i)))
+      ∙ ap₂ bitXor (and-self P) (and-xor P left (2 ^ i)
+      ∙ ap₂ bitXor (and-comm P left ∙ apart) (and-comm P (2 ^ i) ∙ and-pow i P ∙ ap (λ b. b * 2 ^ i) off ∙ zero-mul (2 ^ i)))
       ∙ xor-zero-r P
 
   same-dot : (c : ℕ) → dot col (bitAnd c M′) ≡ dot col c
@@ -87,15 +91,18 @@ module _ (v v′ : ℕ → ℕ) (P left i col β : ℕ) (law : (c : ℕ) → v�
   put-at c =
       let x = bitXor (bit c i) (bitXor (dot col c) β) in
       let lx : x < 2 = xor-lt 1 (bit c i) (bitXor (dot col c) β) (bit-lt c i) (xor-lt 1 (dot col c) β (dot-lt col c) small) in
-      bit-linear i c (x * 2 ^ i) ∙ ap (bitXor (bit c i)) (linear-pick (λ y. bit y i) (bit-linear i) x (2 ^ i) lx ∙ ap (λ b. x * b) (bit-pow i) ∙ mul-one x)
-      ∙ sym (xor-assoc (bit c i) (bit c i) (bitXor (dot col c) β)) ∙ ap (λ b. bitXor b (bitXor (dot col c) β)) (xor-self (bit c i)) ∙ xor-zero-l (bitXor (dot col c) β)
+      bit-linear i c (x * 2 ^ i) ∙ ap (bitXor (bit c i))
+      (linear-pick (λ y. bit y i) (bit-linear i) x (2 ^ i) lx ∙ ap (λ b. x * b) (bit-pow i) ∙ mul-one x)
+      ∙ sym (xor-assoc (bit c i) (bit c i) (bitXor (dot col c) β)) ∙ ap (λ b. bitXor b (bitXor (dot col c) β)) (xor-self (bit c i))
+      ∙ xor-zero-l (bitXor (dot col c) β)
 
   put-other : (c k : ℕ) → k ≢ i → bit (put c) k ≡ bit c k
   unfolding put
   put-other c k ne =
       let x = bitXor (bit c i) (bitXor (dot col c) β) in
       let lx : x < 2 = xor-lt 1 (bit c i) (bitXor (dot col c) β) (bit-lt c i) (xor-lt 1 (dot col c) β (dot-lt col c) small) in
-      bit-linear k c (x * 2 ^ i) ∙ ap (bitXor (bit c k)) (linear-pick (λ y. bit y k) (bit-linear k) x (2 ^ i) lx ∙ ap (λ b. x * b) (bit-pow-other i k ne) ∙ mul-zero x)
+      bit-linear k c (x * 2 ^ i) ∙ ap (bitXor (bit c k))
+      (linear-pick (λ y. bit y k) (bit-linear k) x (2 ^ i) lx ∙ ap (λ b. x * b) (bit-pow-other i k ne) ∙ mul-zero x)
       ∙ xor-zero-r (bit c k)
 
   put-same : (c : ℕ) → bitAnd (put c) M ≡ bitAnd (put (bitAnd c M′)) M
@@ -110,11 +117,13 @@ module _ (v v′ : ℕ → ℕ) (P left i col β : ℕ) (law : (c : ℕ) → v�
       one k =
           elim (ℕ-discrete k i) [
             | yes e ↦
-                ap (λ j. bit (put c) j * bit M k) e ∙ ap (λ b. b * bit M k) (put-at c ∙ ap (λ d. bitXor d β) (sym (same-dot c)) ∙ sym (put-at (bitAnd c M′)))
+                ap (λ j. bit (put c) j * bit M k) e
+                ∙ ap (λ b. b * bit M k) (put-at c ∙ ap (λ d. bitXor d β) (sym (same-dot c)) ∙ sym (put-at (bitAnd c M′)))
                 ∙ ap (λ j. bit (put (bitAnd c M′)) j * bit M k) (sym e)
             | no ne ↦
                 ap (λ b. b * bit M k) (put-other c k ne) ∙ square (bit M k) (bit c k) (bit-lt M k)
-                ∙ ap (λ b. bit c k * b * bit M k) (sym (M′-other k ne)) ∙ ap (λ b. b * bit M k) (sym (bit-and c M′ k) ∙ sym (put-other (bitAnd c M′) k ne))
+                ∙ ap (λ b. bit c k * b * bit M k) (sym (M′-other k ne))
+                ∙ ap (λ b. b * bit M k) (sym (bit-and c M′ k) ∙ sym (put-other (bitAnd c M′) k ne))
           ]
 
   -- the new values no longer depend on variable i

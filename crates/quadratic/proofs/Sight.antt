@@ -33,7 +33,8 @@ bit-seen P p on c = sym (bit-and c P p ∙ ap (λ b. bit c p * b) on ∙ mul-one
 pub appended-wider : (r : Option ℕ) (s s′ : AffineSpace) (x : ℕ) → Appended r s s′ x → bitAnd (s′ .pivots) (s .pivots) ≡ s .pivots
 appended-wider (Some p) s s′ x a =
     let P = s .pivots in
-    let off : bit P p ≡ 0 = digit (λ b. bit P p ≡ b → b ≡ 0) (λ z. refl) (λ o. let g = a .0 .below p o in absurd (omega arith)) (bit P p) (bit-lt P p) refl in
+    let off : bit P p ≡ 0 = digit (λ b. bit P p ≡ b → b ≡ 0) (λ z. refl) (λ o. let g = a .0 .below p o in absurd (omega arith))
+    (bit P p) (bit-lt P p) refl in
     and-comm (s′ .pivots) P ∙ ap (bitAnd P) (a .1) ∙ and-xor P P (2 ^ p)
     ∙ ap₂ bitXor (and-self P) (and-comm P (2 ^ p) ∙ and-pow p P ∙ ap (λ b. b * 2 ^ p) off ∙ zero-mul (2 ^ p)) ∙ xor-zero-r P
 appended-wider None s s′ x a = ap (λ t. bitAnd (t .pivots) (s .pivots)) (a .0) ∙ and-self (s .pivots)

@@ -16,12 +16,15 @@ use Rattle.quadratic.proofs.Clear.{keep}
 pub dot-keep : (x here a c : ℕ) → here ≡ 2 ^ a → bit c a ≡ 0 → dot (bitXor x (bitAnd x here)) c ≡ dot x c
 unfolding dot
 dot-keep x here a c e z =
-    ap (λ n. ones n % 2) (by-bits (bitAnd (bitXor x (bitAnd x here)) c) (bitAnd x c) (λ k. bit-and (bitXor x (bitAnd x here)) c k ∙ one k ∙ sym (bit-and x c k)))
+    ap (λ n. ones n % 2)
+    (by-bits (bitAnd (bitXor x (bitAnd x here)) c) (bitAnd x c)
+    (λ k. bit-and (bitXor x (bitAnd x here)) c k ∙ one k ∙ sym (bit-and x c k)))
   where
     one : (k : ℕ) → bit (bitXor x (bitAnd x here)) k * bit c k ≡ bit x k * bit c k
     one k =
         elim (ℕ-discrete k a) [
-          | yes i ↦ ap (λ b. bit (bitXor x (bitAnd x here)) k * b) (ap (bit c) i ∙ z) ∙ simp mul-zero (sym (ap (λ b. bit x k * b) (ap (bit c) i ∙ z) ∙ mul-zero (bit x k)))
+          | yes i ↦ ap (λ b. bit (bitXor x (bitAnd x here)) k * b) (ap (bit c) i ∙ z)
+              ∙ simp mul-zero (sym (ap (λ b. bit x k * b) (ap (bit c) i ∙ z) ∙ mul-zero (bit x k)))
           | no ne ↦ ap (λ b. b * bit c k) (keep x here a e k ne)
         ]
 
@@ -41,7 +44,8 @@ module _ (a mask rest row t : ℕ) (v v₁ v₂ v₃ : ℕ → ℕ) (small : (c 
   subst-free c =
       let d = bitXor c (2 ^ a) in
       let m = dot-turn mask a c m0 in
-      h₃ d ∙ ap₂ (λ x y. (x + 4 * y) % 8) (h₂ d ∙ ap₂ (λ x y. (x + t * y) % 8) (free c) m ∙ sym (h₂ c)) (ap₂ (λ x y. x * y) m (dot-turn rest a c r0)) ∙ sym (h₃ c)
+      h₃ d ∙ ap₂ (λ x y. (x + 4 * y) % 8) (h₂ d ∙ ap₂ (λ x y. (x + t * y) % 8) (free c) m ∙ sym (h₂ c))
+      (ap₂ (λ x y. x * y) m (dot-turn rest a c r0)) ∙ sym (h₃ c)
 
   at-zero : (c : ℕ) → bit c a ≡ 0 → dot mask c ≡ 0 → v₃ c ≡ v c
   at-zero c z m =

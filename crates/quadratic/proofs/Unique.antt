@@ -22,8 +22,10 @@ pub record Equal (f g : QuadraticForm) : Type 0 where
 
 split : (o n o′ n′ : ℕ) → o < 2 → n < 2 → o′ < 2 → n′ < 2 → (2 * o + 4 * n) % 8 ≡ (2 * o′ + 4 * n′) % 8 → (o ≡ o′) × (n ≡ n′)
 split o n o′ n′ a b c d h =
-    let e : 2 * o + 4 * n ≡ 2 * o′ + 4 * n′ = sym (mod-eq-of-lt {n = 2 * o + 4 * n} {m = 8} (omega arith)) ∙ h ∙ mod-eq-of-lt {n = 2 * o′ + 4 * n′} {m = 8} (omega arith) in
-    digit₂ (λ o o′. 2 * o + 4 * n ≡ 2 * o′ + 4 * n′ → (o ≡ o′) × (n ≡ n′)) (λ e. omega arith) (λ e. absurd (omega arith)) (λ e. absurd (omega arith)) (λ e. omega arith) o o′ a c e
+    let e : 2 * o + 4 * n ≡ 2 * o′ + 4 * n′ = sym (mod-eq-of-lt {n = 2 * o + 4 * n} {m = 8} (omega arith)) ∙ h
+    ∙ mod-eq-of-lt {n = 2 * o′ + 4 * n′} {m = 8} (omega arith) in
+    digit₂ (λ o o′. 2 * o + 4 * n ≡ 2 * o′ + 4 * n′ → (o ≡ o′) × (n ≡ n′)) (λ e. omega arith) (λ e. absurd (omega arith))
+    (λ e. absurd (omega arith)) (λ e. omega arith) o o′ a c e
 
 -- a row past the variables is empty
 pub past-row : (f : QuadraticForm) (a b : ℕ) → 48 ≤ a → link (f .coupling) a b ≡ 0
@@ -37,7 +39,8 @@ module _ (f g : QuadraticForm) (h : (c : ℕ) → c < 2 ^ 48 → valueAt f c ≡
       h
 
   parts : (k : ℕ) → k < 48 → (bit (f .odd) k ≡ bit (g .odd) k) × (bit (f .neg) k ≡ bit (g .neg) k)
-  parts k l = split (bit (f .odd) k) (bit (f .neg) k) (bit (g .odd) k) (bit (g .neg) k) (bit-lt (f .odd) k) (bit-lt (f .neg) k) (bit-lt (g .odd) k) (bit-lt (g .neg) k) (same .linear k l)
+  parts k l = split (bit (f .odd) k) (bit (f .neg) k) (bit (g .odd) k) (bit (g .neg) k) (bit-lt (f .odd) k)
+      (bit-lt (f .neg) k) (bit-lt (g .odd) k) (bit-lt (g .neg) k) (same .linear k l)
 
   odd-same : f .odd ≡ g .odd
   odd-same = same-bits 48 (f .odd) (g .odd) (f .odds) (g .odds) (λ k l. parts k l .0)
@@ -53,7 +56,8 @@ module _ (f g : QuadraticForm) (h : (c : ℕ) → c < 2 ^ 48 → valueAt f c ≡
           | yes j ↦ f .square a b ∙ low-link b a l j ∙ g .square b a
           | no j ↦
               let q : a ≡ b = omega arith in
-              ap (λ x. link (f .coupling) a x) (sym q) ∙ f .own a ∙ ap (λ o. bit o a) odd-same ∙ sym (g .own a) ∙ ap (λ x. link (g .coupling) a x) q
+              ap (λ x. link (f .coupling) a x) (sym q) ∙ f .own a ∙ ap (λ o. bit o a) odd-same ∙ sym (g .own a)
+              ∙ ap (λ x. link (g .coupling) a x) q
         ]
       ]
 
@@ -74,7 +78,8 @@ equal-values f g q c =
     ∙ ap (λ J. quad (g .phase) (coef (g .odd) (g .neg)) J (bit c) 48 % 8) (fun-ext (λ a. fun-ext (λ b. ap (λ r. bit r b) (q .rows a))))
 
 -- rows past 48 are empty
-pub rows-48 : (f g : QuadraticForm) → ((a : ℕ) → a < 48 → getD (f .coupling) a 0 ≡ getD (g .coupling) a 0) → (a : ℕ) → getD (f .coupling) a 0 ≡ getD (g .coupling) a 0
+pub rows-48 : (f g : QuadraticForm) → ((a : ℕ) → a < 48 → getD (f .coupling) a 0 ≡ getD (g .coupling) a 0)
+    → (a : ℕ) → getD (f .coupling) a 0 ≡ getD (g .coupling) a 0
 rows-48 f g h a =
     elim (decLt a 48) [
       | yes l ↦ h a l

@@ -24,7 +24,8 @@ even-step q Q o n x b l h = digit (λ b. (q + b * (2 * o + 4 * n + 4 * x)) % 2 �
 
 even-quad : (Q odd neg c : ℕ) (J : ℕ → ℕ → ℕ) (n : ℕ) → quad Q (coef odd neg) J (bit c) n % 2 ≡ Q % 2
 even-quad Q odd neg c J zero = refl
-even-quad Q odd neg c J (suc n) = even-step (quad Q (coef odd neg) J (bit c) n) Q (bit odd n) (bit neg n) (inner (J n) (bit c) n) (bit c n) (bit-lt c n) (even-quad Q odd neg c J n)
+even-quad Q odd neg c J (suc n) = even-step (quad Q (coef odd neg) J (bit c) n) Q (bit odd n) (bit neg n)
+    (inner (J n) (bit c) n) (bit c n) (bit-lt c n) (even-quad Q odd neg c J n)
 
 even-mod : (x y : ℕ) → x % 2 ≡ y → x % 8 % 2 ≡ y
 even-mod x y h = omega arith

@@ -39,7 +39,8 @@ negatives a b e = omega (arith, ints)
 
 module _ (s t : StabilizerState) where
   -- equal amplitudes come from equal phases
-  same-option : (a b : Option ℕ) → ((m : ℕ) → a ≡ Some m → m < 8) → ((m : ℕ) → b ≡ Some m → m < 8) → amplitudeOf s a ≡ amplitudeOf t b → a ≡ b
+  same-option : (a b : Option ℕ) → ((m : ℕ) → a ≡ Some m → m < 8) → ((m : ℕ) → b ≡ Some m → m < 8) → amplitudeOf s a
+      ≡ amplitudeOf t b → a ≡ b
   same-option (Some m) (Some n) hm hn e =
       ap (λ x. Some x) (sym (mod-eq-of-lt (hm m refl)) ∙ ap (λ x. x .2) e ∙ mod-eq-of-lt (hn n refl))
   same-option (Some m) None hm hn e = let z : _≡_ {A = ℕ} 1 0 = ap (λ x. x .0) e in absurd (omega arith)

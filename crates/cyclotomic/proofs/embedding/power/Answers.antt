@@ -10,7 +10,8 @@ use Rattle.cyclotomic.proofs.embedding.power.Needs.{then-left-eq1, else-left-e
 pub loop-left-holds : need.loop-left-holds
 loop-left-holds g c =
     let m = g .R·Ring in
-    ap (λ x. m .ops .times x (power (m .ops) (m .value (c .args .base)) (c .args .exponent))) (c .one-result .ensures) ∙ one-times (m .laws .comm) _
+    ap (λ x. m .ops .times x (power (m .ops) (m .value (c .args .base)) (c .args .exponent))) (c .one-result .ensures)
+    ∙ one-times (m .laws .comm) _
 
 pub loop-left-again : need.loop-left-again
 loop-left-again g c =
@@ -21,7 +22,8 @@ loop-left-again g c =
     ap (λ s. m .ops .times (m .value (c .if-left-eq1 .result)) (power (m .ops) s (n / 2))) (c .times-square .ensures)
     ∙ elim (c .if-left-eq1 .came) [
       | then-left-eq1 w ↦
-          ap (λ x. m .ops .times x (power (m .ops) (m .ops .times square square) (n / 2))) (ap (m .value) (w .result-is) ∙ w .times-result .ensures)
+          ap (λ x. m .ops .times x (power (m .ops) (m .ops .times square square) (n / 2)))
+          (ap (m .value) (w .result-is) ∙ w .times-result .ensures)
           ∙ odd-step (m .laws .comm) r square n (w .if-left-eq1 .taken)
       | else-left-eq1 w ↦
           ap (λ x. m .ops .times (m .value x) (power (m .ops) (m .ops .times square square) (n / 2))) (w .result-is)
@@ -33,5 +35,6 @@ pub returns : need.returns
 returns g c =
     let m = g .R·Ring in
     let e : c .loop-left .left ≡ 0 = omega arith in
-    sym (ap (λ n. m .ops .times (m .value (c .loop-left .result)) (power (m .ops) (m .value (c .loop-left .square)) n)) e ∙ m .laws .comm .times-one _)
+    sym (ap (λ n. m .ops .times (m .value (c .loop-left .result)) (power (m .ops) (m .value (c .loop-left .square)) n)) e
+    ∙ m .laws .comm .times-one _)
     ∙ c .loop-left .inv

@@ -6,7 +6,8 @@ use Rattle.cyclotomic.proofs.embedding.power.Given as given
 abbrev pub Inv-loop-left : given.InvT-loop-left
 Inv-loop-left g l =
     let m = g .R·Ring in
-    m .ops .times (m .value (l .result)) (power (m .ops) (m .value (l .square)) (l .left)) ≡ power (m .ops) (m .value (l .entry .square)) (l .exponent)
+    m .ops .times (m .value (l .result)) (power (m .ops) (m .value (l .square)) (l .left))
+    ≡ power (m .ops) (m .value (l .entry .square)) (l .exponent)
 
 abbrev pub μ-loop-left : given.MeasureT-loop-left
 μ-loop-left g l = l .left

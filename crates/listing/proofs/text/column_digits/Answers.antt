@@ -16,5 +16,6 @@ loop-place-again g c =
       simp length-set (c .loop-place .inv .0),
       below-more _ _
           (λ k h. let ne : k ≢ place = omega arith in rw getD-set-other (c .loop-place .inv .1 k h))
-          (getD-set-same (c .loop-place .digits) place (c .glyph .result) 0 within ∙ (c .glyph .ensures .0 (c .digit .ensures .1) ∙ ap glyphOf (c .digit .ensures .0))),
+          (getD-set-same (c .loop-place .digits) place (c .glyph .result) 0 within
+          ∙ (c .glyph .ensures .0 (c .digit .ensures .1) ∙ ap glyphOf (c .digit .ensures .0))),
     )

@@ -38,7 +38,8 @@ loop-p-again-then-bit-eq1 c =
     let on : bit mask (p - 1) ≡ 1 = sym (c .bit .ensures .0) ∙ c .if-bit-eq1 .taken in
     let put = shifted (a % 2) (p - 1) (omega arith) (omega arith) in (
       c .loop-p .inv .0 ∙ ap (λ n. sum + spread n mask a) e ∙ ap (_+_ sum) (spread-on (p - 1) mask a on)
-          ∙ sym (add-assoc sum (a % 2 * 2 ^ (p - 1)) (spread (p - 1) mask (a / 2))) ∙ ap (λ x. sum + x + spread (p - 1) mask (a / 2)) (sym put),
+          ∙ sym (add-assoc sum (a % 2 * 2 ^ (p - 1)) (spread (p - 1) mask (a / 2)))
+          ∙ ap (λ x. sum + x + spread (p - 1) mask (a / 2)) (sym put),
       rw put (room sum p (a % 2) (c .loop-p-test .taken) (omega arith) (c .loop-p .inv .1)),
       omega arith,
     )
@@ -59,4 +60,5 @@ loop-p-again c =
 pub returns : need.returns
 returns c =
     let e : c .loop-p .p ≡ 0 = omega arith in
-    sym (c .loop-p .inv .0 ∙ ap (_+_ (c .loop-p .sum)) (spread-end (c .loop-p .p) (c .args .mask) (c .loop-p .left) e) ∙ add-zero (c .loop-p .sum))
+    sym (c .loop-p .inv .0 ∙ ap (_+_ (c .loop-p .sum)) (spread-end (c .loop-p .p) (c .args .mask) (c .loop-p .left) e)
+    ∙ add-zero (c .loop-p .sum))

@@ -8,7 +8,8 @@ use Rattle.quadratic.proofs.Bitlaws.{bit-top}
 use Rattle.quadratic.proofs.bits.highest.Needs as need
 
 top-bit : (x j : ℕ) → 2 ^ j ≤ x → x < 2 ^ suc j → bit x j ≡ 1
-top-bit x j a b = let e = pow-suc 2 j in let k : 2 ^ j + (x - 2 ^ j) ≡ x = omega arith in ap (λ y. bit y j) (sym k) ∙ bit-top j (x - 2 ^ j) (omega arith)
+top-bit x j a b = let e = pow-suc 2 j in let k : 2 ^ j + (x - 2 ^ j) ≡ x = omega arith in ap (λ y. bit y j) (sym k)
+    ∙ bit-top j (x - 2 ^ j) (omega arith)
 
 pub returns : need.returns
 returns c =

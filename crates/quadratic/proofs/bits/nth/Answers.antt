@@ -12,7 +12,8 @@ returns-then-left-eq1 c =
     let mask = c .args .mask in
     let e : p ≡ suc (p - 1) = omega arith in
     let on : bit mask (p - 1) ≡ 1 = sym (c .bit .ensures .0) ∙ c .if-bit-eq1 .taken in
-    sym (c .loop-p .inv .0 ∙ ap (λ n. place n mask (c .loop-p .left)) e ∙ place-here (p - 1) mask (c .loop-p .left) on (c .if-left-eq1 .taken))
+    sym (c .loop-p .inv .0 ∙ ap (λ n. place n mask (c .loop-p .left)) e
+    ∙ place-here (p - 1) mask (c .loop-p .left) on (c .if-left-eq1 .taken))
 
 pub loop-p-again-then-bit-eq1 : need.loop-p-again-then-bit-eq1
 loop-p-again-then-bit-eq1 c =

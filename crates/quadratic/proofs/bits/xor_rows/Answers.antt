@@ -36,7 +36,8 @@ more t s rows mask left a o d =
       length-set s a new ∙ d .1,
       λ k z. elim (ℕ-discrete k a) [
         | yes i ↦ ap (λ j. getD (set s a new) j 0) i ∙ getD-set-same s a new 0 l
-            ∙ ap₂ bitXor (d .3 a o .1) (sym (one-mul mask) ∙ ap (λ b. b * mask) (sym (d .3 a o .0))) ∙ ap (λ j. bitXor (getD t j 0) (bit rows j * mask)) (sym i)
+            ∙ ap₂ bitXor (d .3 a o .1) (sym (one-mul mask) ∙ ap (λ b. b * mask) (sym (d .3 a o .0)))
+            ∙ ap (λ j. bitXor (getD t j 0) (bit rows j * mask)) (sym i)
         | no ne ↦ getD-set-other s a k new 0 ne ∙ d .2 k (sym (undropped left a k ne) ∙ z)
       ],
       λ k u. elim (ℕ-discrete k a) [
@@ -55,10 +56,12 @@ pub index-table-a-in-loop-left : need.index-table-a-in-loop-left
 index-table-a-in-loop-left c = set-below 48 (c .loop-left .left) (c .lowest-a .result) (c .loop-left .inv .0) (c .lowest-a .ensures .on)
 
 pub offset-table-a : need.offset-table-a
-offset-table-a c = let i = set-below 48 (c .loop-left .left) (c .lowest-a .result) (c .loop-left .inv .0) (c .lowest-a .ensures .on) in omega arith
+offset-table-a c = let i = set-below 48 (c .loop-left .left) (c .lowest-a .result) (c .loop-left .inv .0) (c .lowest-a .ensures .on) in
+    omega arith
 
 pub turned-left-requires : need.turned-left-requires
-turned-left-requires c κs = let i = set-below 48 (c .loop-left .left) (c .lowest-a .result) (c .loop-left .inv .0) (c .lowest-a .ensures .on) in omega (arith, i)
+turned-left-requires c κs = let i = set-below 48 (c .loop-left .left) (c .lowest-a .result) (c .loop-left .inv .0)
+    (c .lowest-a .ensures .on) in omega (arith, i)
 
 pub loop-left-less : need.loop-left-less
 loop-left-less c =
@@ -69,7 +72,8 @@ pub loop-left-again : need.loop-left-again
 loop-left-again c =
     let a = c .lowest-a .result in
     let s = c .loop-left .table in
-    subst (λ l. Done (c .args .table .now) (set s a (bitXor (getD s a 0) (c .args .mask))) (c .args .rows) (c .args .mask) l) (sym (c .turned-left .ensures))
+    subst (λ l. Done (c .args .table .now) (set s a (bitXor (getD s a 0) (c .args .mask))) (c .args .rows) (c .args .mask) l)
+    (sym (c .turned-left .ensures))
     (more (c .args .table .now) s (c .args .rows) (c .args .mask) (c .loop-left .left) a (c .lowest-a .ensures .on) (c .loop-left .inv))
 
 pub returns : need.returns

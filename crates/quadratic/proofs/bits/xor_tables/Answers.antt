@@ -27,5 +27,6 @@ returns c = λ k.
       | yes l ↦ c .loop-a .inv .1 k (omega arith)
       | no g ↦
           getD-past (c .loop-a .table) k 0 (omega (arith, c .loop-a .inv .0))
-          ∙ sym (ap₂ bitXor (getD-past (c .args .table .now) k 0 (omega (arith, c .told-table))) (getD-past (c .args .other .now) k 0 (omega (arith, c .told-other))))
+          ∙ sym (ap₂ bitXor (getD-past (c .args .table .now) k 0 (omega (arith, c .told-table)))
+          (getD-past (c .args .other .now) k 0 (omega (arith, c .told-other))))
     ]

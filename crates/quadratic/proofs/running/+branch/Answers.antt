@@ -17,10 +17,12 @@ pub returns-then-mask-eq0 : need.returns-then-mask-eq0
 returns-then-mask-eq0 g t c =
     let m = g .R·Ring in
     let f = formPower (m .ops) (c .args .form .now) in
-    c .at .ensures ∙ ap (wpow (m .ops)) (c .pre .here) ∙ sym (ap (λ x. over (m .ops) f x 48 (c .args .c)) (c .if-mask-eq0 .taken) ∙ over-none (m .laws .comm) f 48 (c .args .c))
+    c .at .ensures ∙ ap (wpow (m .ops)) (c .pre .here)
+    ∙ sym (ap (λ x. over (m .ops) f x 48 (c .args .c)) (c .if-mask-eq0 .taken) ∙ over-none (m .laws .comm) f 48 (c .args .c))
 
 pub turned-rest-requires : need.turned-rest-requires
-turned-rest-requires g t c κs = let l = set-below 48 (c .args .mask) (c .lowest-a .result) (c .pre .inside) (c .lowest-a .ensures .on) in omega arith
+turned-rest-requires g t c κs = let l =
+    set-below 48 (c .args .mask) (c .lowest-a .result) (c .pre .inside) (c .lowest-a .ensures .on) in omega arith
 
 pub slope-requires : need.slope-requires
 slope-requires g t c κs = set-below 48 (c .args .mask) (c .lowest-a .result) (c .pre .inside) (c .lowest-a .ensures .on)
@@ -35,17 +37,20 @@ fewer mask rest a l e on =
 
 pub branch-form-requires : need.branch-form-requires
 branch-form-requires g t c κs within =
-    let l = fewer (c .args .mask) (c .turned-rest .result) (c .lowest-a .result) (c .pre .inside) (c .turned-rest .ensures) (c .lowest-a .ensures .on) in
+    let l = fewer (c .args .mask) (c .turned-rest .result) (c .lowest-a .result) (c .pre .inside)
+    (c .turned-rest .ensures) (c .lowest-a .ensures .on) in
     let m = c .measured in
     let less : c .turned-rest .result < t = omega (arith, l, m) in
     (less, (within, (l .1, (c .pre .small, (c .pre .here, c .pre .table)))))
 
 pub turned-requires : need.turned-requires
-turned-requires g t c κs = let l = set-below 48 (c .args .mask) (c .lowest-a .result) (c .pre .inside) (c .lowest-a .ensures .on) in omega arith
+turned-requires g t c κs = let l = set-below 48 (c .args .mask) (c .lowest-a .result) (c .pre .inside) (c .lowest-a .ensures .on) in
+    omega arith
 
 pub branch-form-requires-2 : need.branch-form-requires-2
 branch-form-requires-2 g t c κs within =
-    let l = fewer (c .args .mask) (c .turned-rest .result) (c .lowest-a .result) (c .pre .inside) (c .turned-rest .ensures) (c .lowest-a .ensures .on) in
+    let l = fewer (c .args .mask) (c .turned-rest .result) (c .lowest-a .result) (c .pre .inside)
+    (c .turned-rest .ensures) (c .lowest-a .ensures .on) in
     let m = c .measured in
     let less : c .turned-rest .result < t = omega (arith, l, m) in
     let value = valueAt (c .args .form .now) in

@@ -13,15 +13,27 @@ apart = low-apart (lit< tt)
 
 pub returns-then-self-other : need.returns-then-self-other
 returns-then-self-other c =
-    record { sound = absurd; complete = λ e. absurd (c .if-self-other .taken (apart _ _ (omega arith) (omega arith) (ap (λ z. z .re .re) e))) }
+    record {
+      sound = absurd;
+      complete =
+          λ e. absurd (c .if-self-other .taken (apart _ _ (omega arith) (omega arith) (ap (λ z. z .re .re) e)));
+    }
 
 pub returns-then-self-other-2 : need.returns-then-self-other-2
 returns-then-self-other-2 c =
-    record { sound = absurd; complete = λ e. absurd (c .if-self-other-2 .taken (apart _ _ (omega arith) (omega arith) (ap (λ z. z .im .re) e))) }
+    record {
+      sound = absurd;
+      complete =
+          λ e. absurd (c .if-self-other-2 .taken (apart _ _ (omega arith) (omega arith) (ap (λ z. z .im .re) e)));
+    }
 
 pub returns-then-self-other-3 : need.returns-then-self-other-3
 returns-then-self-other-3 c =
-    record { sound = absurd; complete = λ e. absurd (c .if-self-other-3 .taken (apart _ _ (omega arith) (omega arith) (ap (λ z. z .re .im) e))) }
+    record {
+      sound = absurd;
+      complete =
+          λ e. absurd (c .if-self-other-3 .taken (apart _ _ (omega arith) (omega arith) (ap (λ z. z .re .im) e)));
+    }
 
 pub returns : need.returns
 returns c =
@@ -29,6 +41,7 @@ returns c =
     let y = c .args .other in
     let word : ℕ → Below (2 ^ 64) = low (lit< tt) in
     record {
-      sound = λ t. four (ap word (c .if-self-other .left)) (ap word (c .if-self-other-2 .left)) (ap word (c .if-self-other-3 .left)) (ap word (eqb→eq (x .a3) (y .a3) t));
+      sound = λ t. four (ap word (c .if-self-other .left)) (ap word (c .if-self-other-2 .left))
+          (ap word (c .if-self-other-3 .left)) (ap word (eqb→eq (x .a3) (y .a3) t));
       complete = λ e. passes (x .a3) (y .a3) (apart _ _ (omega arith) (omega arith) (ap (λ z. z .im .im) e));
     }

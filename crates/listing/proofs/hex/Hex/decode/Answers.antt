@@ -15,5 +15,6 @@ loop-i-again c =
       search needs,
       below-more _ _
           (λ k h. pushed .places .0 k 0 (omega (arith, so-far)) ∙ c .loop-i .inv .1 k h)
-          (ap (λ (n : ℕ). getD (vec-items (c .push .last .self)) n 0) (sym so-far) ∙ (pushed .places .1 0 refl ∙ omega (arith, c .nibble-or-zero-high .ensures .0, c .nibble-or-zero-low .ensures .0))),
+          (ap (λ (n : ℕ). getD (vec-items (c .push .last .self)) n 0) (sym so-far)
+          ∙ (pushed .places .1 0 refl ∙ omega (arith, c .nibble-or-zero-high .ensures .0, c .nibble-or-zero-low .ensures .0))),
     )

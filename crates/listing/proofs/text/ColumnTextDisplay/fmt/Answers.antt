@@ -15,4 +15,5 @@ returns g c = λ plain ok.
     let long : length digits ≡ 64 = search needs in
     let within : width - 0 ≤ 64 = omega arith in
     let same : width - 0 ≡ g .C·Column .digits = omega arith in
-    same-put (glyphs-front f digits (width - 0) 64 long within (c .column-digits-digits .ensures) ∙ ap (λ (n : ℕ). glyphs f 0 n) same) (c .write-ascii .ensures plain ok)
+    same-put (glyphs-front f digits (width - 0) 64 long within (c .column-digits-digits .ensures) ∙ ap (λ (n : ℕ). glyphs f 0 n) same)
+    (c .write-ascii .ensures plain ok)

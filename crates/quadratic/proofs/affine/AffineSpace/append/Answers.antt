@@ -31,6 +31,7 @@ returns-in-Some c =
     let i = c .insert .ensures in (
       f,
       i .pivots,
-      λ q. i .rows q ∙ ap (λ b. bitXor (row (s .rows) q) (bitXor b (bit (2 ^ p) q) * g)) (f .free q) ∙ ap (λ b. bitXor (row (s .rows) q) (b * g)) (xor-zero-l (bit (2 ^ p) q)),
+      λ q. i .rows q ∙ ap (λ b. bitXor (row (s .rows) q) (bitXor b (bit (2 ^ p) q) * g)) (f .free q)
+          ∙ ap (λ b. bitXor (row (s .rows) q) (b * g)) (xor-zero-l (bit (2 ^ p) q)),
       i .shift ∙ ap (λ b. bitXor (s .shift) (b * g)) (f .clear) ∙ ap (bitXor (s .shift)) (zero-mul g) ∙ xor-zero-r (s .shift),
     )

@@ -12,5 +12,6 @@ returns c =
     let i = c .args .i in
     record {
       below = c .responses .ensures .below;
-      bits = λ p. c .responses .ensures .bits p ∙ ap (λ w. dot w (R p)) (c .turned .ensures ∙ xor-zero-l (2 ^ i)) ∙ dot-comm (2 ^ i) (R p) ∙ dot-pow (R p) i;
+      bits = λ p. c .responses .ensures .bits p ∙ ap (λ w. dot w (R p)) (c .turned .ensures ∙ xor-zero-l (2 ^ i))
+          ∙ dot-comm (2 ^ i) (R p) ∙ dot-pow (R p) i;
     }

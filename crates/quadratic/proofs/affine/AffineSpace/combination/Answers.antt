@@ -16,12 +16,15 @@ loop-p-again c =
     let s = span R (c .args .c) p in
     rw add-one (elim (c .if-bit-eq1 .came) [
       | then-bit-eq1 w ↦
-          w .sum-is ∙ ap₂ bitXor (c .loop-p .inv) (sym (one-mul (R p)) ∙ ap (λ b. b * R p) (sym (w .if-bit-eq1 .taken) ∙ c .bit .ensures .0))
+          w .sum-is ∙ ap₂ bitXor (c .loop-p .inv)
+          (sym (one-mul (R p)) ∙ ap (λ b. b * R p) (sym (w .if-bit-eq1 .taken) ∙ c .bit .ensures .0))
       | else-bit-eq1 w ↦
           let none : c .bit .result ≡ 0 = omega arith in
-          w .sum-is ∙ c .loop-p .inv ∙ sym (xor-zero-r s) ∙ ap (bitXor s) (sym (zero-mul (R p)) ∙ ap (λ b. b * R p) (sym none ∙ c .bit .ensures .0))
+          w .sum-is ∙ c .loop-p .inv ∙ sym (xor-zero-r s)
+          ∙ ap (bitXor s) (sym (zero-mul (R p)) ∙ ap (λ b. b * R p) (sym none ∙ c .bit .ensures .0))
     ])
 
 pub returns : need.returns
 unfolding combination
-returns c = c .loop-p .inv ∙ ap (span (row (c .args .self .now .rows)) (c .args .c)) (le-antisymm (c .loop-p .kept .p-end) (c .loop-p-test .left))
+returns c = c .loop-p .inv ∙ ap (span (row (c .args .self .now .rows)) (c .args .c))
+    (le-antisymm (c .loop-p .kept .p-end) (c .loop-p-test .left))

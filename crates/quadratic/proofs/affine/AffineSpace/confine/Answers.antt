@@ -19,8 +19,10 @@ loop-i-holds c = agree-none (c .args .self .now) (c .args .other .now)
 pub returns-in-Empty : need.returns-in-Empty
 returns-in-Empty c =
     let b = c .bit-then-bit-eq0 .ensures in
-    agree-empty (c .args .self .now) (c .loop-i .self) (c .args .other .now) (c .loop-i .i) (c .loop-i .inv) (c .turned-w .result) (c .column .result)
-    (c .column .ensures .bits) (c .turned-w .ensures) (flag (eqb (c .bit-then-bit-eq0 .result) 1)) (tested (c .bit-then-bit-eq0 .result) _ (b .0) (b .1))
+    agree-empty (c .args .self .now) (c .loop-i .self) (c .args .other .now) (c .loop-i .i) (c .loop-i .inv)
+    (c .turned-w .result) (c .column .result)
+    (c .column .ensures .bits) (c .turned-w .ensures) (flag (eqb (c .bit-then-bit-eq0 .result) 1))
+    (tested (c .bit-then-bit-eq0 .result) _ (b .0) (b .1))
     (c .in-Empty .ensures tt .1)
 
 pub loop-i-again : need.loop-i-again
@@ -32,8 +34,10 @@ loop-i-again c =
       | then-bit-eq0·in-rest w ↦
           let b = w .bit-then-bit-eq0 .ensures in
           subst (λ x. Agreeing s x t (i + 1)) (sym (w .self-is))
-          (agree-cut s (c .loop-i .self) t i (c .loop-i .inv) (w .turned-w .result) (w .column .result) (w .column .ensures .bits) (w .turned-w .ensures)
-          (w .restrict .result) (w .restrict .last .self) (flag (eqb (w .bit-then-bit-eq0 .result) 1)) (tested (w .bit-then-bit-eq0 .result) _ (b .0) (b .1))
+          (agree-cut s (c .loop-i .self) t i (c .loop-i .inv) (w .turned-w .result) (w .column .result)
+          (w .column .ensures .bits) (w .turned-w .ensures)
+          (w .restrict .result) (w .restrict .last .self) (flag (eqb (w .bit-then-bit-eq0 .result) 1))
+          (tested (w .bit-then-bit-eq0 .result) _ (b .0) (b .1))
           (w .in-rest .not-Empty) (w .restrict .ensures))
       | else-bit-eq0 w ↦
           let on : bit (t .pivots) i ≡ 1 = omega (arith, c .bit .ensures .0, c .bit .ensures .1, w .if-bit-eq0 .left) in

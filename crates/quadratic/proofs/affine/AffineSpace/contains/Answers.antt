@@ -12,5 +12,6 @@ returns c =
     let e = ap (bitXor y) (c .combination .ensures) in
     record {
       sound = λ t. member s y (sym e ∙ eqb→eq (bitXor y (c .combination .result)) (s .shift) t);
-      complete = λ m. subst (λ x. T (eqb (bitXor y (c .combination .result)) x)) (e ∙ holds s y m) (eqb-refl (bitXor y (c .combination .result)));
+      complete = λ m. subst (λ x. T (eqb (bitXor y (c .combination .result)) x)) (e ∙ holds s y m)
+          (eqb-refl (bitXor y (c .combination .result)));
     }

@@ -32,7 +32,8 @@ returns-then-self-turned-ne0 c = λ q f.
     let p = c .highest-p .result in
     let h = c .highest-p .ensures in
     let e = one-top (c .args .added) p q (h .on) (h .most) (f .on) (f .most) in
-    c .if-self-turned-ne0 .taken (ap (λ t. s .pivots % t) (pow-of (c .turned .result) p (c .turned .ensures)) ∙ ap (λ n. s .pivots % 2 ^ suc n) (sym e) ∙ above s (c .args .added) q f)
+    c .if-self-turned-ne0 .taken (ap (λ t. s .pivots % t) (pow-of (c .turned .result) p (c .turned .ensures))
+    ∙ ap (λ n. s .pivots % 2 ^ suc n) (sym e) ∙ above s (c .args .added) q f)
 
 pub returns-then-bit-eq1 : need.returns-then-bit-eq1
 returns-then-bit-eq1 c = λ q f.
@@ -46,19 +47,22 @@ returns-then-column-ne0 c = λ q f.
     let h = c .highest-p .ensures in
     let R = row (c .args .self .now .rows) in
     let e = one-top (c .args .added) (c .highest-p .result) q (h .on) (h .most) (f .on) (f .most) in
-    c .if-column-ne0 .taken (by-bits (c .column .result) 0 (λ i. c .column .ensures .bits i ∙ ap (bit (R i)) (sym e) ∙ f .free i ∙ sym (bit-zero i)))
+    c .if-column-ne0 .taken
+    (by-bits (c .column .result) 0 (λ i. c .column .ensures .bits i ∙ ap (bit (R i)) (sym e) ∙ f .free i ∙ sym (bit-zero i)))
 
 pub returns : need.returns
 returns c =
     let s = c .args .self .now in
     let p = c .highest-p .result in
     let R = row (s .rows) in
-    let low : s .pivots % 2 ^ suc p ≡ 0 = ap (λ t. s .pivots % t) (sym (pow-of (c .turned .result) p (c .turned .ensures))) ∙ c .if-self-turned-ne0 .left in
+    let low : s .pivots % 2 ^ suc p ≡ 0 = ap (λ t. s .pivots % t) (sym (pow-of (c .turned .result) p (c .turned .ensures)))
+    ∙ c .if-self-turned-ne0 .left in
     record {
       place = omega (arith, c .if-p-ge48 .left);
       on = c .highest-p .ensures .on;
       most = c .highest-p .ensures .most;
-      below = λ q o. elim (decLt p q) [ yes g ↦ g | no g ↦ absurd (not-both (bit (s .pivots) q) (low-none (suc p) (s .pivots) q low (omega arith)) o) ];
+      below = λ q o. elim
+          (decLt p q) [ yes g ↦ g | no g ↦ absurd (not-both (bit (s .pivots) q) (low-none (suc p) (s .pivots) q low (omega arith)) o) ];
       free = λ q. sym (c .column .ensures .bits q) ∙ ap (λ x. bit x q) (c .if-column-ne0 .left) ∙ bit-zero q;
       clear = omega (arith, c .bit .ensures .0, c .bit .ensures .1, c .if-bit-eq1 .left);
     }

@@ -10,7 +10,10 @@ use Rattle.quadratic.proofs.affine.AffineSpace.origin.Needs as need
 pub ghost-result : need.ghost-result
 ghost-result c = (
   pow-pos 48,
-  (λ p. rw (getD-zeros 48 p) (pow-pos (suc p)), (λ p. and-zero-r (row (replicate 48 0) p) ∙ sym (and-zero-r (2 ^ p)), (λ p z. getD-zeros 48 p, (pow-pos 48, (and-zero-r 0, tt))))),
+  (
+    λ p. rw (getD-zeros 48 p) (pow-pos (suc p)),
+    (λ p. and-zero-r (row (replicate 48 0) p) ∙ sym (and-zero-r (2 ^ p)), (λ p z. getD-zeros 48 p, (pow-pos 48, (and-zero-r 0, tt)))),
+  ),
 )
 
 pub returns : need.returns

@@ -64,6 +64,7 @@ returns c =
         | yes i ↦ c .loop-p .inv .1 p (rw e i)
         | no i ↦
             let g : 48 ≤ p = omega arith in
-            bit-past 48 l p below g ∙ sym (ap (dot (c .args .w)) (s .idle p (bit-past 48 (s .pivots) p (s .within) g)) ∙ dot-none (c .args .w))
+            bit-past 48 l p below g
+            ∙ sym (ap (dot (c .args .w)) (s .idle p (bit-past 48 (s .pivots) p (s .within) g)) ∙ dot-none (c .args .w))
       ];
     }

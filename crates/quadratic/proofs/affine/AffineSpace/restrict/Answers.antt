@@ -14,7 +14,8 @@ pub returns-then-beta-eq0 : need.returns-then-beta-eq0
 returns-then-beta-eq0 c = (
   refl,
   λ y m. flat (c .args .self .now) (c .args .w) (c .responses-l .result) (c .responses-l .ensures .bits) (c .if-l-eq0 .taken) y m
-      ∙ sym (c .dot .ensures .0) ∙ move (c .dot .result) (c .flag .result) 0 (c .if-beta-eq0 .taken) ∙ xor-zero-l (c .flag .result) ∙ c .flag .ensures,
+      ∙ sym (c .dot .ensures .0) ∙ move (c .dot .result) (c .flag .result) 0 (c .if-beta-eq0 .taken)
+      ∙ xor-zero-l (c .flag .result) ∙ c .flag .ensures,
 )
 
 pub returns-else-beta-eq0 : need.returns-else-beta-eq0
@@ -40,5 +41,6 @@ cut-requires c κs =
 
 pub returns : need.returns
 returns c =
-    by-parity (c .args .self .now) (c .cut .last .self) (c .args .w) (c .responses-l .result) (flag (c .args .b)) _ (c .responses-l .ensures .bits)
+    by-parity (c .args .self .now) (c .cut .last .self) (c .args .w) (c .responses-l .result) (flag (c .args .b)) _
+    (c .responses-l .ensures .bits)
     (ap₂ bitXor (c .dot .ensures .0) (c .flag .ensures)) (c .cut .ensures .half)

@@ -40,5 +40,6 @@ pub returns : need.returns
 unfolding valueAt
 returns c =
     let f = c .args .self .now in
-    λ p. value-product 48 (f .phase) (f .odd) (f .neg) (f .coupling) (c .xor-rows .last .table) (c .xor-rows-2 .last .table) (c .args .u) (c .args .v)
+    λ p. value-product 48 (f .phase) (f .odd) (f .neg) (f .coupling) (c .xor-rows .last .table) (c .xor-rows-2 .last .table)
+    (c .args .u) (c .args .v)
     (c .xor-rows .ensures) (c .xor-rows-2 .ensures) p (c .pre .0) (c .pre .1)

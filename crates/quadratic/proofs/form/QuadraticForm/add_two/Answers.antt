@@ -34,4 +34,5 @@ pub returns : need.returns
 unfolding valueAt
 returns c =
     let f = c .args .self .now in
-    λ p. value-two 48 (f .phase) (f .odd) (f .neg) (f .coupling) (c .args .mask) p (c .pre) (c .xor-rows .last .table) (c .xor-rows .ensures)
+    λ p. value-two 48 (f .phase) (f .odd) (f .neg) (f .coupling) (c .args .mask) p (c .pre) (c .xor-rows .last .table)
+    (c .xor-rows .ensures)

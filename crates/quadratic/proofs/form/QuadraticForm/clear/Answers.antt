@@ -6,7 +6,8 @@ use Rattle.std.proofs.shelf.Bits.{one-shl, pow-below}
 use Rattle.quadratic.specs.Bits.{bit, dot}
 use Rattle.quadratic.specs.Quadratic.{coef}
 use Rattle.quadratic.specs.Value.{terms, valueAt}
-use Rattle.quadratic.proofs.Clear.{value-bit, keep, gone, mask-below, link-row, square-clear, inside-clear, own-clear, value-off, value-free}
+use Rattle.quadratic.proofs.Clear.{value-bit, keep, gone, mask-below, link-row, square-clear, inside-clear, own-clear, value-off}
+use Rattle.quadratic.proofs.Clear.{value-free}
 use Rattle.quadratic.proofs.form.QuadraticForm.clear.Needs as need
 
 pub xor-rows-requires : need.xor-rows-requires

@@ -24,5 +24,8 @@ ghost-result c =
 
 pub returns : need.returns
 unfolding valueAt
-returns c =
-    (λ p. ap (λ v. v % 8) (quad-none (c .args .phase) (bit p) (coef 0 0) (link (replicate 48 0)) 48 no-coef no-link) ∙ mod-eq-of-lt (c .pre), refl)
+returns c = (
+  λ p. ap (λ v. v % 8) (quad-none (c .args .phase) (bit p) (coef 0 0) (link (replicate 48 0)) 48 no-coef no-link)
+      ∙ mod-eq-of-lt (c .pre),
+  refl,
+)

@@ -9,6 +9,7 @@ returns-then-p-ge48 c =
     let f = c .args .self .now in
     let far = c .if-p-ge48 .taken in
     record {
-      value = sym (ap₂ (λ o n. 2 * o + 4 * n) (bit-past 48 (f .odd) (c .args .p) (f .odds) far) (bit-past 48 (f .neg) (c .args .p) (f .negs) far));
+      value = sym
+          (ap₂ (λ o n. 2 * o + 4 * n) (bit-past 48 (f .odd) (c .args .p) (f .odds) far) (bit-past 48 (f .neg) (c .args .p) (f .negs) far));
       bound = omega arith;
     }

@@ -5,19 +5,35 @@ use Rattle.quadratic.proofs.form.QuadraticForm.same.Needs as need
 
 pub returns-then-self-other : need.returns-then-self-other
 returns-then-self-other c =
-    record { sound = λ b. absurd b; complete = λ h. c .if-self-other .taken (same-form (c .args .self .now) (c .args .other .now) h .phases) }
+    record {
+      sound = λ b. absurd b;
+      complete =
+          λ h. c .if-self-other .taken (same-form (c .args .self .now) (c .args .other .now) h .phases);
+    }
 
 pub returns-then-self-other-2 : need.returns-then-self-other-2
 returns-then-self-other-2 c =
-    record { sound = λ b. absurd b; complete = λ h. c .if-self-other-2 .taken (same-form (c .args .self .now) (c .args .other .now) h .odds) }
+    record {
+      sound = λ b. absurd b;
+      complete =
+          λ h. c .if-self-other-2 .taken (same-form (c .args .self .now) (c .args .other .now) h .odds);
+    }
 
 pub returns-then-self-other-3 : need.returns-then-self-other-3
 returns-then-self-other-3 c =
-    record { sound = λ b. absurd b; complete = λ h. c .if-self-other-3 .taken (same-form (c .args .self .now) (c .args .other .now) h .negs) }
+    record {
+      sound = λ b. absurd b;
+      complete =
+          λ h. c .if-self-other-3 .taken (same-form (c .args .self .now) (c .args .other .now) h .negs);
+    }
 
 pub returns-then-self-a : need.returns-then-self-a
 returns-then-self-a c =
-    record { sound = λ b. absurd b; complete = λ h. c .if-self-a .taken (same-form (c .args .self .now) (c .args .other .now) h .rows (c .loop-a .a)) }
+    record {
+      sound = λ b. absurd b;
+      complete =
+          λ h. c .if-self-a .taken (same-form (c .args .self .now) (c .args .other .now) h .rows (c .loop-a .a));
+    }
 
 pub returns : need.returns
 returns c =

@@ -35,8 +35,10 @@ returns c =
     let v₃ = valueAt (c .add-product .last .self) in
     let up = λ (p : ℕ). slope-at f a p (c .pre .0) ∙ ap (λ d. (valueAt f p + (d + 4 * dot row p)) % 8) (sym te) in
     record {
-      values = subst-values a (c .args .mask) rest row t v v₁ v₂ v₃ (value-lt f) up (c .clear .ensures .off) (c .clear .ensures .free) (c .add-parity .ensures) (c .add-product .ensures)
+      values = subst-values a (c .args .mask) rest row t v v₁ v₂ v₃ (value-lt f) up (c .clear .ensures .off)
+          (c .clear .ensures .free) (c .add-parity .ensures) (c .add-product .ensures)
           (c .pre .1 .1) (gone row h a e) (λ p z. dot-keep row h a p e z);
-      free = subst-free a (c .args .mask) rest row t v v₁ v₂ v₃ (value-lt f) up (c .clear .ensures .off) (c .clear .ensures .free) (c .add-parity .ensures) (c .add-product .ensures)
+      free = subst-free a (c .args .mask) rest row t v v₁ v₂ v₃ (value-lt f) up (c .clear .ensures .off)
+          (c .clear .ensures .free) (c .add-parity .ensures) (c .add-product .ensures)
           (c .pre .1 .1) (gone row h a e) (λ p z. dot-keep row h a p e z);
     }

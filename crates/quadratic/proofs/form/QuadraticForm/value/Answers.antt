@@ -11,7 +11,8 @@ use Rattle.quadratic.proofs.Values.{value-lt}
 use Rattle.quadratic.proofs.form.QuadraticForm.value.Needs as need
 use Rattle.quadratic.proofs.form.QuadraticForm.value.Needs.{then-bit-eq1, else-bit-eq1}
 
-on : (s q b o n x o′ n′ x′ : ℕ) → s ≡ q % 8 → b ≡ 1 → o′ ≡ o → n′ ≡ n → x′ ≡ x → (s + (2 * o′ + 4 * n′) + 4 * x′) % 8 ≡ (q + b * (2 * o + 4 * n + 4 * x)) % 8
+on : (s q b o n x o′ n′ x′ : ℕ) → s ≡ q % 8 → b ≡ 1 → o′ ≡ o → n′ ≡ n → x′ ≡ x → (s + (2 * o′ + 4 * n′) + 4 * x′) % 8
+    ≡ (q + b * (2 * o + 4 * n + 4 * x)) % 8
 on s q b o n x o′ n′ x′ e h p r t = rw (h, p, r, t) (omega arith)
 
 off : (s q y b : ℕ) → s ≡ q % 8 → b ≡ 0 → s ≡ (q + b * y) % 8
@@ -28,8 +29,10 @@ loop-a-again c =
     rw add-one (elim (c .if-bit-eq1 .came) [
       | then-bit-eq1 w ↦
           w .sum-is
-          ∙ on (c .loop-a .sum) q (bit p a) (bit (f .odd) a) (bit (f .neg) a) x (w .bit-then-bit-eq1 .result) (w .bit-then-bit-eq1-2 .result) (w .shared-below .result)
-          (c .loop-a .inv) (sym (c .bit .ensures .0) ∙ w .if-bit-eq1 .taken) (w .bit-then-bit-eq1 .ensures .0) (w .bit-then-bit-eq1-2 .ensures .0) (w .shared-below .ensures .0)
+          ∙ on (c .loop-a .sum) q (bit p a) (bit (f .odd) a) (bit (f .neg) a) x (w .bit-then-bit-eq1 .result)
+          (w .bit-then-bit-eq1-2 .result) (w .shared-below .result)
+          (c .loop-a .inv) (sym (c .bit .ensures .0) ∙ w .if-bit-eq1 .taken) (w .bit-then-bit-eq1 .ensures .0)
+          (w .bit-then-bit-eq1-2 .ensures .0) (w .shared-below .ensures .0)
       | else-bit-eq1 w ↦ w .sum-is ∙ off (c .loop-a .sum) q (d + 4 * x) (bit p a) (c .loop-a .inv) (omega arith)
     ])
 

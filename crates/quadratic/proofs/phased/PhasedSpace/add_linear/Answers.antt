@@ -19,7 +19,8 @@ ghost-self c =
     let on = c .if-not-is-pivot .ensures tt .yes tt in (
       seen-plus (valueAt (s .form)) (valueAt (c .add-parity .last .self)) (λ y. times * bit y p) (s .space .pivots) (s .idle)
           (λ y. ap (λ b. times * b) (bit-seen (s .space .pivots) p (on .1) y))
-          (λ y. c .add-parity .ensures y ∙ ap (λ b. (valueAt (s .form) y + times * b) % 8) (one-dot (c .turned .result) p y (c .turned .ensures))),
+          (λ y. c .add-parity .ensures y
+          ∙ ap (λ b. (valueAt (s .form) y + times * b) % 8) (one-dot (c .turned .result) p y (c .turned .ensures))),
       tt,
     )
 
@@ -31,5 +32,6 @@ returns c =
       c .if-times-gt6 .left,
       omega arith,
       refl,
-      λ y. c .add-parity .ensures y ∙ ap (λ b. (valueAt (s .form) y + c .args .times * b) % 8) (one-dot (c .turned .result) (c .args .p) y (c .turned .ensures)),
+      λ y. c .add-parity .ensures y ∙ ap (λ b. (valueAt (s .form) y + c .args .times * b) % 8)
+          (one-dot (c .turned .result) (c .args .p) y (c .turned .ensures)),
     )

@@ -18,9 +18,11 @@ ghost-self c =
     let p = c .args .p in
     let q = c .args .q in (
       seen-plus (valueAt (s .form)) (valueAt (c .add-product .last .self)) (λ y. 4 * (bit y p * bit y q)) P (s .idle)
-          (λ y. ap₂ (λ a b. 4 * (a * b)) (bit-seen P p (c .if-not-is-pivot .ensures tt .yes tt .1) y) (bit-seen P q (c .if-not-is-pivot-2 .ensures tt .yes tt .1) y))
+          (λ y. ap₂ (λ a b. 4 * (a * b)) (bit-seen P p (c .if-not-is-pivot .ensures tt .yes tt .1) y)
+          (bit-seen P q (c .if-not-is-pivot-2 .ensures tt .yes tt .1) y))
           (λ y. c .add-product .ensures y
-          ∙ ap₂ (λ a b. (valueAt (s .form) y + 4 * (a * b)) % 8) (one-dot (c .turned .result) p y (c .turned .ensures)) (one-dot (c .turned-2 .result) q y (c .turned-2 .ensures))),
+          ∙ ap₂ (λ a b. (valueAt (s .form) y + 4 * (a * b)) % 8) (one-dot (c .turned .result) p y (c .turned .ensures))
+          (one-dot (c .turned-2 .result) q y (c .turned-2 .ensures))),
       tt,
     )
 
@@ -34,5 +36,6 @@ returns c =
       c .if-p-q .left,
       refl,
       λ y. c .add-product .ensures y
-          ∙ ap₂ (λ a b. (valueAt (s .form) y + 4 * (a * b)) % 8) (one-dot (c .turned .result) p y (c .turned .ensures)) (one-dot (c .turned-2 .result) q y (c .turned-2 .ensures)),
+          ∙ ap₂ (λ a b. (valueAt (s .form) y + 4 * (a * b)) % 8) (one-dot (c .turned .result) p y (c .turned .ensures))
+          (one-dot (c .turned-2 .result) q y (c .turned-2 .ensures)),
     )

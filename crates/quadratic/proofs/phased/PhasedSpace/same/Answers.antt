@@ -4,7 +4,11 @@ use Rattle.quadratic.proofs.phased.PhasedSpace.same.Needs as need
 
 pub returns-then-not-same : need.returns-then-not-same
 returns-then-not-same c =
-    record { sound = absurd; complete = λ h. c .if-not-same .ensures tt .complete (same-strings (c .args .self .now) (c .args .other .now) h) }
+    record {
+      sound = absurd;
+      complete =
+          λ h. c .if-not-same .ensures tt .complete (same-strings (c .args .self .now) (c .args .other .now) h);
+    }
 
 pub returns : need.returns
 returns c =

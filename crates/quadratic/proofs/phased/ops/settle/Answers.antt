@@ -16,13 +16,15 @@ pub column-requires : need.column-requires
 column-requires c κs = set-below 48 (c .loop-left .left) (c .lowest-i .result) (c .loop-left .inv .0) (c .lowest-i .ensures .on)
 
 pub bit-requires : need.bit-requires
-bit-requires c κs = let l = set-below 48 (c .loop-left .left) (c .lowest-i .result) (c .loop-left .inv .0) (c .lowest-i .ensures .on) in omega arith
+bit-requires c κs = let l = set-below 48 (c .loop-left .left) (c .lowest-i .result) (c .loop-left .inv .0) (c .lowest-i .ensures .on) in
+    omega arith
 
 pub fix-requires : need.fix-requires
 fix-requires c κs =
     let s = c .args .space .now in
     let i = c .lowest-i .result in
-    let off = off-bit (s .pivots) (c .loop-left .left) i (and-comm (s .pivots) (c .loop-left .left) ∙ c .loop-left .inv .1) (c .lowest-i .ensures .on) in
+    let off = off-bit (s .pivots) (c .loop-left .left) i (and-comm (s .pivots) (c .loop-left .left) ∙ c .loop-left .inv .1)
+    (c .lowest-i .ensures .on) in
     record {
       place = set-below 48 (c .loop-left .left) i (c .loop-left .inv .0) (c .lowest-i .ensures .on);
       low = c .column .ensures .below;
@@ -31,7 +33,8 @@ fix-requires c κs =
     }
 
 pub turned-left-requires : need.turned-left-requires
-turned-left-requires c κs = let l = set-below 48 (c .loop-left .left) (c .lowest-i .result) (c .loop-left .inv .0) (c .lowest-i .ensures .on) in omega arith
+turned-left-requires c κs = let l = set-below 48 (c .loop-left .left) (c .lowest-i .result) (c .loop-left .inv .0)
+    (c .lowest-i .ensures .on) in omega arith
 
 pub loop-left-less : need.loop-left-less
 loop-left-less c =
@@ -56,10 +59,13 @@ loop-left-again c =
       rw e (omega (arith, dropped, inv .0)),
       ap (λ x. bitAnd x (s .pivots)) e ∙ still-apart (s .pivots) left i (inv .1) on,
       λ y m.
-          c .fix .ensures y ∙ ap (λ b. v (bitXor y (bitXor (bit y i) (bitXor (dot col y) b) * 2 ^ i))) (β ∙ ap (λ x. bit x i) (c .shift .ensures))
-          ∙ ap (λ x. v (bitXor y (x * 2 ^ i))) (own-bit s i col bits y m) ∙ ap v (ap (bitXor y) (zero-mul (2 ^ i)) ∙ xor-zero-r y) ∙ inv .2 y m,
+          c .fix .ensures y ∙ ap (λ b. v (bitXor y (bitXor (bit y i) (bitXor (dot col y) b) * 2 ^ i)))
+          (β ∙ ap (λ x. bit x i) (c .shift .ensures))
+          ∙ ap (λ x. v (bitXor y (x * 2 ^ i))) (own-bit s i col bits y m) ∙ ap v (ap (bitXor y) (zero-mul (2 ^ i)) ∙ xor-zero-r y)
+          ∙ inv .2 y m,
       λ h. subst (λ x. Seen v′ (bitXor (s .pivots) x)) (sym e)
-          (unseen v v′ (s .pivots) left i col (c .bit .result) (c .fix .ensures) (c .bit .ensures .1) (inv .1) on (column-inside s i col bits) (inv .3 h)),
+          (unseen v v′ (s .pivots) left i col (c .bit .result) (c .fix .ensures) (c .bit .ensures .1) (inv .1) on
+          (column-inside s i col bits) (inv .3 h)),
     )
 
 pub returns : need.returns

@@ -8,7 +8,8 @@ use Rattle.quadratic.proofs.sum.Remaining.finish.Given as given
 -- the sum is as it was, and the power has risen by one or two for each variable that went
 abbrev pub Inv-loop-self : given.InvT-loop-self
 Inv-loop-self l =
-    (leftOf omegas (l .self .form) (l .self .live) (l .self .power) ≡ leftOf omegas (l .entry .self .form) (l .entry .self .live) (l .entry .self .power))
+    (leftOf omegas (l .self .form) (l .self .live) (l .self .power)
+    ≡ leftOf omegas (l .entry .self .form) (l .entry .self .live) (l .entry .self .power))
     × (l .entry .self .power + ones (l .entry .self .live) ≤ l .self .power + ones (l .self .live))
     × (l .self .power + 2 * ones (l .self .live) ≤ l .entry .self .power + 2 * ones (l .entry .self .live))
 

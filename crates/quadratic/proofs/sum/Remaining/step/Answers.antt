@@ -13,7 +13,8 @@ use Rattle.quadratic.proofs.sum.Remaining.step.Needs as need
 
 -- a live variable is even where no live one is odd
 even : (odd live a : ℕ) → bitAnd odd live ≡ 0 → bit live a ≡ 1 → bit odd a ≡ 0
-even odd live a e on = sym (mul-one (bit odd a)) ∙ ap (λ b. bit odd a * b) (sym on) ∙ sym (bit-and odd live a) ∙ ap (λ x. bit x a) e ∙ bit-zero a
+even odd live a e on = sym (mul-one (bit odd a)) ∙ ap (λ b. bit odd a * b) (sym on) ∙ sym (bit-and odd live a)
+    ∙ ap (λ x. bit x a) e ∙ bit-zero a
 
 pub sum-odd-requires : need.sum-odd-requires
 sum-odd-requires c κs =
@@ -47,11 +48,14 @@ returns-then-linear-ne0 c =
     let s = c .args .self .now in
     let a = c .lowest-a .result in
     let none = ap (λ x. bitAnd x (s .live)) (sym (c .odd .ensures)) ∙ c .if-odd-ne0 .left in
-    dead-left (s .form) (s .live) a (s .inside) (c .lowest-a .ensures .on) (ap (λ x. bitAnd x (s .live)) (sym (c .partners .ensures)) ∙ c .if-partners-ne0 .left)
-    (even (s .form .odd) (s .live) a none (c .lowest-a .ensures .on)) (s .power) (λ z. c .if-linear-ne0 .taken (c .linear .ensures .value ∙ z))
+    dead-left (s .form) (s .live) a (s .inside) (c .lowest-a .ensures .on)
+    (ap (λ x. bitAnd x (s .live)) (sym (c .partners .ensures)) ∙ c .if-partners-ne0 .left)
+    (even (s .form .odd) (s .live) a none (c .lowest-a .ensures .on)) (s .power)
+    (λ z. c .if-linear-ne0 .taken (c .linear .ensures .value ∙ z))
 
 pub turned-self-requires : need.turned-self-requires
-turned-self-requires c κs = let s = c .args .self .now in let l = set-below 48 (s .live) (c .lowest-a .result) (s .inside) (c .lowest-a .ensures .on) in omega arith
+turned-self-requires c κs = let s = c .args .self .now in let l =
+    set-below 48 (s .live) (c .lowest-a .result) (s .inside) (c .lowest-a .ensures .on) in omega arith
 
 pub ghost-self : need.ghost-self
 ghost-self c =
@@ -71,8 +75,10 @@ returns c =
     let none = ap (λ x. bitAnd x (s .live)) (sym (c .odd .ensures)) ∙ c .if-odd-ne0 .left in
     stepped _ _ _ _ _ _ 1 2 (omega arith) (omega arith) (omega arith)
     (record {
-      same = lone-left (s .form) (s .live) a (s .inside) (c .lowest-a .ensures .on) (ap (λ x. bitAnd x (s .live)) (sym (c .partners .ensures)) ∙ c .if-partners-ne0 .left)
-          (even (s .form .odd) (s .live) a none (c .lowest-a .ensures .on)) r (s .power) (c .turned-self .ensures) (sym (c .linear .ensures .value) ∙ c .if-linear-ne0 .left);
+      same = lone-left (s .form) (s .live) a (s .inside) (c .lowest-a .ensures .on)
+          (ap (λ x. bitAnd x (s .live)) (sym (c .partners .ensures)) ∙ c .if-partners-ne0 .left)
+          (even (s .form .odd) (s .live) a none (c .lowest-a .ensures .on)) r (s .power) (c .turned-self .ensures)
+          (sym (c .linear .ensures .value) ∙ c .if-linear-ne0 .left);
       count = ap (λ x. ones x + 1) (c .turned-self .ensures) ∙ ones-drop (s .live) a (s .inside) (c .lowest-a .ensures .on);
       powers = refl;
     })

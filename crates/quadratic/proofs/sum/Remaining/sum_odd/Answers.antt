@@ -11,7 +11,8 @@ use Rattle.quadratic.proofs.Lowest.{set-below, ones-drop}
 use Rattle.quadratic.proofs.sum.Remaining.sum_odd.Needs as need
 
 pub turned-rest-requires : need.turned-rest-requires
-turned-rest-requires c κs = let s = c .args .self .now in let l = set-below 48 (s .live) (c .args .a) (s .inside) (c .pre .live) in omega arith
+turned-rest-requires c κs = let s = c .args .self .now in let l =
+    set-below 48 (s .live) (c .args .a) (s .inside) (c .pre .live) in omega arith
 
 pub partners-requires : need.partners-requires
 partners-requires c κs = let s = c .args .self .now in set-below 48 (s .live) (c .args .a) (s .inside) (c .pre .live)
@@ -21,7 +22,8 @@ add-parity-requires c κs =
     let f = c .args .self .now .form in
     let row = c .partners .result in
     let rest = c .turned-rest .result in
-    let below : bitAnd row rest < 2 ^ 48 = lt-of-le-of-lt (and-le-l row rest) (subst (λ x. x < 2 ^ 48) (sym (c .partners .ensures)) (f .inside (c .args .a))) in
+    let below : bitAnd row rest < 2 ^ 48 =
+    lt-of-le-of-lt (and-le-l row rest) (subst (λ x. x < 2 ^ 48) (sym (c .partners .ensures)) (f .inside (c .args .a))) in
     let l = bit-lt (f .neg) (c .args .a) in
     (below, (omega (arith, c .pre .odd, c .linear-own .ensures .value, l), omega (arith, c .pre .odd, c .linear-own .ensures .value, l)))
 
@@ -40,8 +42,10 @@ returns c =
     let s = c .args .self .now in
     let a = c .args .a in
     record {
-      same = odd-left (s .form) (s .live) a (s .inside) (c .pre .live) (c .add-phase .last .self) (c .add-parity .last .self) (c .linear-own .result) (c .partners .result)
-          (c .turned-rest .result) (s .power) (c .pre .odd) (c .linear-own .ensures .value) (c .partners .ensures) (c .turned-rest .ensures) (c .add-phase .ensures) (c .add-parity .ensures);
+      same = odd-left (s .form) (s .live) a (s .inside) (c .pre .live) (c .add-phase .last .self)
+          (c .add-parity .last .self) (c .linear-own .result) (c .partners .result)
+          (c .turned-rest .result) (s .power) (c .pre .odd) (c .linear-own .ensures .value) (c .partners .ensures)
+          (c .turned-rest .ensures) (c .add-phase .ensures) (c .add-parity .ensures);
       count = ap (λ x. ones x + 1) (c .turned-rest .ensures) ∙ ones-drop (s .live) a (s .inside) (c .pre .live);
       powers = refl;
     }

@@ -24,10 +24,12 @@ quarters : (f : QuadraticForm) (a d : ℕ) → bit (f .odd) a ≡ 0 → d ≡ co
 quarters f a d z e = let l = bit-lt (f .neg) a in (omega (arith, z, e, l), omega (arith, z, e, l))
 
 pub turned-requires : need.turned-requires
-turned-requires c κs = let s = c .args .self .now in let l = set-below 48 (s .live) (c .args .a) (s .inside) (c .pre .lives .0) in omega arith
+turned-requires c κs = let s = c .args .self .now in let l =
+    set-below 48 (s .live) (c .args .a) (s .inside) (c .pre .lives .0) in omega arith
 
 pub turned-rest-requires : need.turned-rest-requires
-turned-rest-requires c κs = let s = c .args .self .now in let l = set-below 48 (s .live) (c .args .b) (s .inside) (c .pre .lives .1) in omega arith
+turned-rest-requires c κs = let s = c .args .self .now in let l =
+    set-below 48 (s .live) (c .args .b) (s .inside) (c .pre .lives .1) in omega arith
 
 pub partners-requires : need.partners-requires
 partners-requires c κs = let s = c .args .self .now in set-below 48 (s .live) (c .args .a) (s .inside) (c .pre .lives .0)
@@ -50,11 +52,14 @@ add-parity-requires-2 c κs =
 pub add-product-requires : need.add-product-requires
 add-product-requires c κs =
     let f = c .args .self .now .form in
-    let r = c .turned-rest .result in
-    (masked f (c .args .a) (c .partners .result) r (c .partners .ensures), masked f (c .args .b) (c .partners-2 .result) r (c .partners-2 .ensures))
+    let r = c .turned-rest .result in (
+      masked f (c .args .a) (c .partners .result) r (c .partners .ensures),
+      masked f (c .args .b) (c .partners-2 .result) r (c .partners-2 .ensures),
+    )
 
 -- two variables less
-module _ (f : QuadraticForm) (live a b r : ℕ) (inside : live < 2 ^ 48) (on : bit live a ≡ 1) (on′ : bit live b ≡ 1) (even : bit (f .odd) a ≡ 0)
+module _ (f : QuadraticForm) (live a b r : ℕ) (inside : live < 2 ^ 48) (on : bit live a ≡ 1) (on′ : bit live b ≡ 1)
+    (even : bit (f .odd) a ≡ 0)
     (even′ : bit (f .odd) b ≡ 0) (coupled : bit (getD (f .coupling) a 0) b ≡ 1) (e : r ≡ bitXor (bitXor live (2 ^ a)) (2 ^ b)) where
   between : bitXor live (2 ^ a) < 2 ^ 48
   between = xor-lt 48 live (2 ^ a) inside (pow-lt (set-below 48 live a inside on))
@@ -74,9 +79,13 @@ ghost-self c =
     let r = c .turned-rest .result in
     let e = c .turned-rest .ensures ∙ ap (λ x. bitXor x (2 ^ c .args .b)) (c .turned .ensures) in
     let p = c .pre in
-    let n = two-less (s .form) (s .live) (c .args .a) (c .args .b) r (s .inside) (p .lives .0) (p .lives .1) (p .evens .0) (p .evens .1) (p .coupled) e in
-    let few : s .power + 2 + 2 * ones r ≤ 96 = omega (arith, n, s .few) in
-    (low (s .form) (s .live) (c .args .a) (c .args .b) r (s .inside) (p .lives .0) (p .lives .1) (p .evens .0) (p .evens .1) (p .coupled) e, (few, tt))
+    let n = two-less (s .form) (s .live) (c .args .a) (c .args .b) r (s .inside) (p .lives .0) (p .lives .1)
+    (p .evens .0) (p .evens .1) (p .coupled) e in
+    let few : s .power + 2 + 2 * ones r ≤ 96 = omega (arith, n, s .few) in (
+      low (s .form) (s .live) (c .args .a) (c .args .b) r (s .inside) (p .lives .0) (p .lives .1) (p .evens .0)
+          (p .evens .1) (p .coupled) e,
+      (few, tt),
+    )
 
 pub returns : need.returns
 returns c =
@@ -85,10 +94,14 @@ returns c =
     let r = c .turned-rest .result in
     let e = c .turned-rest .ensures ∙ ap (λ x. bitXor x (2 ^ c .args .b)) (c .turned .ensures) in
     record {
-      same = pair-left (s .form) (s .live) (c .args .a) (c .args .b) (s .inside) (p .lives .0) (p .lives .1) (p .evens .0) (p .evens .1) (p .coupled)
-          (c .add-phase .last .self) (c .add-parity .last .self) (c .add-parity-2 .last .self) (c .add-product .last .self) (c .linear-alpha .result) (c .linear-beta .result)
-          (c .partners .result) (c .partners-2 .result) r (s .power) (c .linear-alpha .ensures .value) (c .linear-beta .ensures .value) (c .partners .ensures) (c .partners-2 .ensures) e
+      same = pair-left (s .form) (s .live) (c .args .a) (c .args .b) (s .inside) (p .lives .0) (p .lives .1)
+          (p .evens .0) (p .evens .1) (p .coupled)
+          (c .add-phase .last .self) (c .add-parity .last .self) (c .add-parity-2 .last .self) (c .add-product .last .self)
+          (c .linear-alpha .result) (c .linear-beta .result)
+          (c .partners .result) (c .partners-2 .result) r (s .power) (c .linear-alpha .ensures .value)
+          (c .linear-beta .ensures .value) (c .partners .ensures) (c .partners-2 .ensures) e
           (c .add-phase .ensures) (c .add-parity .ensures) (c .add-parity-2 .ensures) (c .add-product .ensures);
-      count = two-less (s .form) (s .live) (c .args .a) (c .args .b) r (s .inside) (p .lives .0) (p .lives .1) (p .evens .0) (p .evens .1) (p .coupled) e;
+      count = two-less (s .form) (s .live) (c .args .a) (c .args .b) r (s .inside) (p .lives .0) (p .lives .1)
+          (p .evens .0) (p .evens .1) (p .coupled) e;
       powers = refl;
     }

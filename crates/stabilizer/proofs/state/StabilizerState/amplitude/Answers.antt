@@ -12,5 +12,6 @@ pub returns-then-string-self-ne0 : need.returns-then-string-self-ne0
 returns-then-string-self-ne0 c =
     let y = c .args .string in
     let end = 2 ^ c .args .self .now .qubits in
-    let far : ltb y end ≡ false = elim (decLt y end) [ yes l ↦ absurd (c .if-string-self-ne0 .taken (div-eq-of-lt l)) | no g ↦ le-ltb y end (omega arith) ] in
+    let far : ltb y end ≡ false = elim (decLt y end)
+    [ yes l ↦ absurd (c .if-string-self-ne0 .taken (div-eq-of-lt l)) | no g ↦ le-ltb y end (omega arith) ] in
     record { number = sym (cond-false (ltb y end) 0 14 far); value = tt }
