@@ -13,6 +13,7 @@ cp -R crates.txt crates target "$copy"
 survived=0
 for crate in "$@"; do
     for edit in edits/"$crate"/*.edit; do
+        [ -f "$edit" ] || continue
         file=crates/$crate/$(sed -n 's/^file: //p' "$edit")
         OLD=$(sed -n 's/^old: //p' "$edit") NEW=$(sed -n 's/^new: //p' "$edit") awk '
             { text = text $0 "\n" }
