@@ -1,6 +1,6 @@
 #!/bin/sh
 # edits/run.sh [CRATE...]: tries each edit of edits/CRATE/ (default: every crate that has some). Each turns the meaning of one function, and
-# the check must refuse it. It works in a copy of the repository under target/, over the proofs of the last `rt check`, which makes an
+# the check must refuse it. It works in a copy of the repository, over the proofs of the last `rt check`, which makes an
 # edit a matter of seconds; the gate tries those of crates/CRATE/must-fail/ from nothing.
 set -eu
 cd "$(dirname "$0")/.."
