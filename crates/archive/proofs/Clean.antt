@@ -1,5 +1,5 @@
 -- Fields that keep their rules have no fault.
-use Rattle.std.proofs.Common.{◌≡◌, ℕ, zero, suc, ◌+◌, ◌-◌, ◌*◌, ◌≤◌, true, ◌&&◌, leb, List, [], length, None, sym, refl, ap, ◌∙◌, suc-mul, add-mul, one-mul, arith}
+use Rattle.std.proofs.Common.{◌≡◌, ℕ, zero, suc, ◌+◌, ◌*◌, ◌≤◌, true, ◌&&◌, leb, List, [], length, None, sym, refl, ap, ◌∙◌, suc-mul, add-mul, one-mul, arith}
 use Rattle.std.proofs.lemmas.Bool.{le-leb, and_from, cond-true}
 use Rattle.archive.specs.declared.fault.Field.{Field}
 use Rattle.archive.specs.Bits.{bitsAt}

@@ -1,5 +1,5 @@
 -- The coefficients of a form, from its values at strings with at most two bits.
-use Rattle.std.proofs.Common.{◌≡◌, ℕ, zero, suc, ◌+◌, ◌-◌, ◌*◌, ◌/◌, ◌%◌, ◌^◌, ◌<◌, Bool, true, false, get_or, sym, refl, ap, ◌∙◌, ap₂, inl, inr, add-zero, mod-eq_of_lt, add-mul, one-mul, pow-suc, mul-zero, zero-add, zero-mul, mul-add, arith}
+use Rattle.std.proofs.Common.{◌≡◌, ℕ, zero, suc, ◌+◌, ◌*◌, ◌/◌, ◌%◌, ◌^◌, ◌<◌, Bool, true, false, get_or, sym, refl, ap, ◌∙◌, ap₂, inl, inr, add-zero, mod-eq_of_lt, add-mul, one-mul, pow-suc, mul-zero, zero-add, zero-mul, mul-add, arith}
 use lib.Pow.{pow-lt}
 use Rattle.std.proofs.lemmas.Bool.{cases_lt, cases_eq}
 use Rattle.quadratic.specs.Bits.{bit, inner}

@@ -1,5 +1,5 @@
 -- The set bits of a mask, from the top.
-use Rattle.std.proofs.Common.{◌≡◌, ℕ, zero, ◌+◌, ◌-◌, ◌/◌, ◌%◌, ◌^◌, ◌<◌, ◌≤◌, List, length, get_or, set, sym, ap, ◌∙◌, inl, inr, add-zero, add_comm, arith, length-set, get_or-set_other, get_or-set_same, shr-shr, below_more}
+use Rattle.std.proofs.Common.{◌≡◌, ℕ, ◌+◌, ◌-◌, ◌/◌, ◌%◌, ◌^◌, ◌<◌, ◌≤◌, List, length, get_or, set, sym, ap, ◌∙◌, inl, inr, add-zero, add_comm, arith, length-set, get_or-set_other, get_or-set_same, shr-shr, below_more}
 use lib.Count.{ones, ones_step}
 use Rattle.std.proofs.lemmas.Bool.{cases_eq}
 use Rattle.quadratic.specs.Bits.{bit}

@@ -1,5 +1,5 @@
 -- Bits that a part of the writing leaves as they are.
-use Rattle.std.proofs.Common.{◌≡◌, ℕ, ◌+◌, ◌-◌, ◌*◌, ◌<◌, ◌≤◌, List, length, get_or, set, sym, ◌∙◌, subst, mul-le-mul_right, add-mul, one-mul, arith, get_or-set_other, get_or-set_same, below_more}
+use Rattle.std.proofs.Common.{◌≡◌, ℕ, ◌+◌, ◌*◌, ◌<◌, ◌≤◌, List, length, get_or, set, sym, ◌∙◌, subst, mul-le-mul_right, add-mul, one-mul, arith, get_or-set_other, get_or-set_same, below_more}
 use Rattle.archive.specs.Bits.{bit_at, bitsAt, Framed}
 use Rattle.archive.proofs.Laws.{bits-same}
 

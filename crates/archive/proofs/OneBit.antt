@@ -1,5 +1,5 @@
 -- One bit of a byte put anew.
-use Rattle.std.proofs.Common.{◌≡◌, ℕ, suc, ◌+◌, ◌-◌, ◌*◌, ◌/◌, ◌%◌, ◌^◌, ◌<◌, ◌≤◌, ◌≢◌, ◌⊎◌, List, length, get_or, set, sym, refl, ap, ◌∙◌, inl, inr, ⊎_elim, pow-suc, arith, get_or-set_other, get_or-set_same, pow_pos, pow-add, shl_exact, shr-shr, shr_lt}
+use Rattle.std.proofs.Common.{◌≡◌, ℕ, suc, ◌+◌, ◌-◌, ◌*◌, ◌/◌, ◌%◌, ◌^◌, ◌<◌, ◌≤◌, ◌≢◌, List, length, get_or, set, sym, refl, ap, ◌∙◌, inl, inr, ⊎_elim, pow-suc, arith, get_or-set_other, get_or-set_same, pow_pos, pow-add, shl_exact, shr-shr, shr_lt}
 use lib.Arith.{digits_lt}
 use lib.Pow.{high, low, field, mod-mod-pow}
 use Rattle.std.proofs.lemmas.Nat.{one_shl, mod_below}

@@ -1,5 +1,5 @@
 -- Bits without a fault hold one state.
-use Rattle.std.proofs.Common.{◌≡◌, ℕ, zero, suc, ◌+◌, ◌-◌, ◌*◌, ◌%◌, ◌^◌, ◌<◌, List, None, sym, refl, ap, ◌∙◌, ap₂, inl, inr, add-zero, mod-eq_of_lt, add_comm, mul-zero, zero-add, zero-mul, arith}
+use Rattle.std.proofs.Common.{◌≡◌, ℕ, zero, suc, ◌+◌, ◌*◌, ◌%◌, ◌^◌, ◌<◌, List, None, sym, refl, ap, ◌∙◌, ap₂, inl, inr, add-zero, mod-eq_of_lt, add_comm, mul-zero, zero-add, zero-mul, arith}
 use lib.Bits.{bit_and}
 use Rattle.std.proofs.lemmas.Bool.{cases_lt, cases_eq}
 use Rattle.quadratic.specs.Bits.{bit, inner}

@@ -1,5 +1,5 @@
 -- One row more in the space.
-use Rattle.std.proofs.Common.{◌≡◌, ℕ, suc, ◌+◌, ◌-◌, ◌*◌, ◌/◌, ◌%◌, ◌^◌, ◌<◌, ◌≤◌, List, length, set, Some, None, sym, ap, ◌∙◌, subst, ap₂, inl, inr, add-zero, one-mul, zero-mul, arith, length-set, get_or-set_other, get_or-set_same, pow_pos, below_more}
+use Rattle.std.proofs.Common.{◌≡◌, ℕ, suc, ◌+◌, ◌*◌, ◌/◌, ◌%◌, ◌^◌, ◌<◌, ◌≤◌, List, length, set, Some, None, sym, ap, ◌∙◌, subst, ap₂, inl, inr, add-zero, one-mul, zero-mul, arith, length-set, get_or-set_other, get_or-set_same, pow_pos, below_more}
 use native.Mathlib.Nat.{zero-mod}
 use lib.Bits.{bit_xor, xor_zero_l, xor_zero_r, xor_shifted}
 use lib.Count.{ones, ones_cat}

@@ -1,5 +1,5 @@
 -- One coefficient more.
-use Rattle.std.proofs.Common.{◌≡◌, ℕ, ◌+◌, ◌-◌, ◌*◌, ◌%◌, ◌^◌, ◌<◌, ◌≢◌, List, sym, ap, ◌∙◌, ap₂, inl, inr, add-zero, mod-eq_of_lt, mul-zero, zero-add, zero-mul, mul-one, arith, below_more}
+use Rattle.std.proofs.Common.{◌≡◌, ℕ, ◌+◌, ◌*◌, ◌%◌, ◌^◌, ◌<◌, ◌≢◌, List, sym, ap, ◌∙◌, ap₂, inl, inr, add-zero, mod-eq_of_lt, mul-zero, zero-add, zero-mul, mul-one, arith, below_more}
 use Rattle.std.proofs.lemmas.Bool.{cases_lt, cases_eq}
 use Rattle.quadratic.specs.Bits.{bit}
 use Rattle.quadratic.specs.Fields.{linearAt}

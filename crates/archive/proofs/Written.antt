@@ -1,5 +1,5 @@
 -- The bits of a written state.
-use Rattle.std.proofs.Common.{◌≡◌, ℕ, zero, suc, ◌+◌, ◌-◌, ◌*◌, ◌^◌, ◌<◌, ◌≤◌, true, ◌≢◌, List, length, get_or, take, None, sym, refl, ap, ◌∙◌, subst, ap₂, inl, inr, zero-add, mul-one, arith, length-take-le, pow_mono}
+use Rattle.std.proofs.Common.{◌≡◌, ℕ, zero, suc, ◌+◌, ◌*◌, ◌^◌, ◌<◌, ◌≤◌, true, ◌≢◌, List, length, get_or, take, None, sym, refl, ap, ◌∙◌, subst, ap₂, inl, inr, zero-add, mul-one, arith, length-take-le, pow_mono}
 use lib.Count.{ones, ones-le}
 use Rattle.std.proofs.lemmas.Bool.{cases_eq, cases_lt, lt-ltb, eq-eqb, and_from}
 use Rattle.quadratic.specs.Bits.{bit}

@@ -1,4 +1,6 @@
 // The byte format of stabilizer states, and of archives of them.
+#![tactic(auto)]
+
 mod bits;
 mod build;
 pub mod codec;

@@ -1,5 +1,7 @@
 // Times nothing itself, but does what is timed: bench MODE ROUNDS, with an archive on standard input. It prints how many overlaps were taken
 // or strings added, and a number made of every result.
+#![tactic(auto)]
+
 ghost use Rattle.std.specs.Prelude.{◌<◌, length};
 
 use archive::load::load;

@@ -7,14 +7,12 @@ use Rattle.cyclotomic.specs.Adjoin.{Omega, omegas}
 use Rattle.cyclotomic.specs.CommFacts
 use Rattle.cyclotomic.specs.Exact.{scaled}
 use Rattle.cyclotomic.specs.Ring.{two, wpow}
-use Rattle.cyclotomic.specs.Scalars.{Triple, nought, Kind}
+use Rattle.cyclotomic.specs.Scalars.{Triple, Kind}
 use Rattle.cyclotomic.proofs.Exact.{bar, Floor, scaled-nought, scaled-turn, scaled-same}
 use Rattle.stabilizer.specs.Calls.{Call, gate, project, Step, rotated, rotatedBy, Applied, AppliedBy, ProjectedBy}
 use Rattle.stabilizer.specs.Calls.{Projected, impossible, exhausted, kept, halved}
 use Rattle.stabilizer.specs.Gates.{takes, gateOf, operandsNumber, gateMatrix}
-use Rattle.stabilizer.specs.Overlaps.{IsOverlap}
 use Rattle.stabilizer.specs.Paulis.{Pauli, pauliOf, readNumber, textNumber}
-use Rattle.stabilizer.specs.States.{amplitude}
 use Rattle.stabilizer.specs.Vectors.{entry, inner}
 use Rattle.stabilizer.specs.declared.gate.Gate.{Gate}
 use Rattle.stabilizer.specs.declared.state.StabilizerState.{StabilizerState}

@@ -24,7 +24,7 @@ fn push_call(word: &[u8], out: &mut Vec<Call>) -> Result<(), Problem> {
     let call = match word {
         [b'g', b':', numbers @ ..] => gate_of(numbers)?,
         [b'p', b':', text @ ..] => {
-            let mut bytes = Vec::new(out.allocator());
+            let mut bytes = Vec::new(*out.allocator());
             read_text(text, &mut bytes)?;
             Call::Project(bytes)
         }

@@ -1,4 +1,6 @@
 // Looks into states and archives: commands on standard input, one to a line, and a line of answer for each on standard output.
+#![tactic(auto)]
+
 mod answer;
 mod calls;
 mod command;

@@ -1,6 +1,6 @@
 use Rattle.std.proofs.Common.{◌≡◌, ℕ, zero, suc, sym, refl, ap, ◌∙◌, ap₂}
-use Rattle.cyclotomic.specs.Ring.{Ops, CommLaws, RingLaws, Hom, wpow, root}
-use Rattle.cyclotomic.specs.Adjoin.{Pair, adjoin, gauss, tower, quad, conj}
+use Rattle.cyclotomic.specs.Ring.{Ops, CommLaws, Hom, wpow, root}
+use Rattle.cyclotomic.specs.Adjoin.{Pair, tower, quad, conj}
 use Rattle.cyclotomic.specs.CommFacts
 use Rattle.cyclotomic.specs.CommFacts.{ring, units, negs}
 use Rattle.cyclotomic.specs.AdjoinLaws.{both, tower-laws}

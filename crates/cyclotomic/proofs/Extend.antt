@@ -1,8 +1,8 @@
 -- Maps out of a ring with a square root adjoined, and out of ℤ[w].
-use Rattle.std.proofs.Common.{◌≡◌, ℕ, zero, suc, ◌+◌, ◌*◌, ℤ, pos, negsuc, ◌+ℤ◌, ◌*ℤ◌, sym, refl, ap, ◌∙◌, ap₂, arith}
+use Rattle.std.proofs.Common.{◌≡◌, ℕ, zero, suc, ◌+◌, negsuc, ◌+ℤ◌, sym, ap, ◌∙◌, ap₂, arith}
 use borrow.Author.Differences.{up, down, sum_is_lem, product_is}
 use Rattle.cyclotomic.specs.Ring.{Ops, CommLaws, RingLaws, Hom, wpow, root, rpow, exact, num}
-use Rattle.cyclotomic.specs.Adjoin.{Pair, adjoin, gauss, omegas, ints, extend, int-to, gauss-to, omega-to}
+use Rattle.cyclotomic.specs.Adjoin.{adjoin, gauss, omegas, ints, extend, int-to, gauss-to, omega-to}
 use Rattle.cyclotomic.specs.Sum.{sum_to}
 use Rattle.cyclotomic.specs.CommFacts
 use Rattle.cyclotomic.specs.CommFacts.{ring, units, negs}

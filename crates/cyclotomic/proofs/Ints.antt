@@ -1,5 +1,5 @@
 -- The integers are a ring. z is read as up z - down z, and the laws become equations of natural numbers that omega proves.
-use Rattle.std.proofs.Common.{◌≡◌, ℕ, ◌+◌, ◌*◌, ℤ, pos, ◌+ℤ◌, ◌*ℤ◌, ap, arith}
+use Rattle.std.proofs.Common.{◌≡◌, ◌+◌, ◌*◌, ℤ, pos, ◌+ℤ◌, ◌*ℤ◌, ap, arith}
 use borrow.Author.Differences.{up, down, same_in, sum_is_lem, product_is}
 use lib.IntN.{+ℤ_assoc, +ℤ_comm, +ℤ_idr, +ℤ_invr, *ℤ_comm, *ℤ-one, one}
 use Rattle.cyclotomic.specs.Ring.{CommLaws, RingLaws}

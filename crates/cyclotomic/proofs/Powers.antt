@@ -1,5 +1,5 @@
 -- Powers by squaring.
-use Rattle.std.proofs.Common.{◌≡◌, ℕ, zero, suc, ◌+◌, ◌/◌, ◌%◌, sym, refl, ap, ◌∙◌, ap₂, add-suc, suc-add, arith}
+use Rattle.std.proofs.Common.{◌≡◌, ℕ, zero, suc, ◌+◌, ◌/◌, ◌%◌, refl, ap, ◌∙◌, add-suc, suc-add, arith}
 use Rattle.cyclotomic.specs.Ring.{Ops, CommLaws, power}
 
 module _ {R : Type 0} {o : Ops R} (laws : CommLaws o) where

@@ -1,8 +1,8 @@
 -- Numbers below n as residues: which stand for the same one, and negatives.
-use Rattle.std.proofs.Common.{◌≡◌, ℕ, zero, suc, ◌+◌, ◌-◌, ◌%◌, ◌<◌, T, eqb, sym, ap, ◌∙◌, mod-eq_of_lt}
+use Rattle.std.proofs.Common.{◌≡◌, ℕ, ◌+◌, ◌-◌, ◌%◌, ◌<◌, T, eqb, sym, ap, ◌∙◌, mod-eq_of_lt}
 use native.Mathlib.Nat.{mod-mod, zero-mod}
 use lib.Dec.{eqb_refl}
-use Rattle.cyclotomic.specs.Modular.{Below, low, residues}
+use Rattle.cyclotomic.specs.Modular.{low, residues}
 use Rattle.cyclotomic.specs.ModularLaws.{same, residue-laws, low-plus}
 use Rattle.cyclotomic.specs.CommFacts.{cancel}
 

@@ -1,6 +1,6 @@
-use Rattle.std.proofs.Common.{◌≡◌, ℕ, zero, suc, ◌+◌, ◌*◌, ◌/◌, ◌%◌, ◌^◌, sym, refl, ap, ◌∙◌, ap₂, add_comm, suc-add, zero-add, arith}
+use Rattle.std.proofs.Common.{◌≡◌, ℕ, zero, suc, ◌+◌, ◌*◌, ◌/◌, ◌%◌, ◌^◌, sym, refl, ap, ◌∙◌, ap₂, suc-add, zero-add, arith}
 use Rattle.cyclotomic.specs.Ring.{Ops, RingLaws, wpow, root, two, rpow, exact, num}
-use Rattle.cyclotomic.specs.CommFacts.{nil-plus, one-times, plus_times, cancel, neg-times, neg-neg, middle, times-nil, times-middle}
+use Rattle.cyclotomic.specs.CommFacts.{nil-plus, one-times, plus_times, cancel, neg-times, neg-neg, middle, times-middle}
 use Rattle.cyclotomic.specs.CommFacts.{two-times, num-plus, plus-left-comm}
 
 module _ {R : Type 0} {o : Ops R} (laws : RingLaws o) where

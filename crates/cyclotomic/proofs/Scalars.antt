@@ -1,10 +1,10 @@
 -- The scalars r^p w^m of ℤ[w]: none is 0, and equal ones have equal p and equal m modulo 8.
-use Rattle.std.proofs.Common.{◌≡◌, ℕ, zero, suc, ◌+◌, ◌*◌, ◌/◌, ◌%◌, ◌^◌, ◌<◌, ◌≤◌, ℤ, pos, ◌+ℤ◌, sym, refl, ap, ◌∙◌, ap₂, arith, lit<}
+use Rattle.std.proofs.Common.{◌≡◌, ℕ, zero, suc, ◌+◌, ◌*◌, ◌%◌, ◌^◌, ◌<◌, ℤ, pos, ◌+ℤ◌, sym, refl, ap, ◌∙◌, ap₂, arith, lit<}
 use native.Mathlib.Nat.{pow-le-pow_right}
 use borrow.Author.Differences.{up, down, ints}
 use lib.IntN.{ℤ_discrete}
 use Rattle.cyclotomic.specs.AdjoinLaws.{pair-discrete}
-use Rattle.cyclotomic.specs.Ring.{CommLaws, RingLaws, Hom, wpow, root, two, rpow, exact, num}
+use Rattle.cyclotomic.specs.Ring.{wpow, root, rpow, exact, num}
 use Rattle.cyclotomic.specs.Adjoin.{Pair, Omega, omegas, conj}
 use Rattle.cyclotomic.specs.Adjoin
 use Rattle.cyclotomic.specs.CommFacts

@@ -1,6 +1,6 @@
 -- The ring R with a square root of s: pairs (a, b) for a + b √s. w is that root.
 use borrow.Author.Differences.{up, down}
-use Rattle.std.specs.Prelude.{ℤ, pos, negsuc, ◌+ℤ◌, ◌*ℤ◌, neg_ℤ}
+use Rattle.std.specs.Prelude.{ℤ, pos, ◌+ℤ◌, ◌*ℤ◌, neg_ℤ}
 use Rattle.cyclotomic.specs.Ring.{Ops, num}
 
 pub record Pair (R : Type 0) : Type 0 where

@@ -1,8 +1,7 @@
-use Rattle.std.specs.Prelude.{◌≡◌, refl}
-use Rattle.std.proofs.Common.{sym, ap, ap₂, ◌∙◌}
+use Rattle.std.specs.Prelude.{◌≡◌}
+use Rattle.std.proofs.Common.{ap, ap₂, ◌∙◌}
 use Rattle.cyclotomic.specs.Ring.{Ops, CommLaws, RingLaws}
 use Rattle.cyclotomic.specs.Adjoin.{Pair, adjoin, gauss, tower}
-use Rattle.cyclotomic.specs.CommFacts
 use Rattle.cyclotomic.specs.CommFacts.{ring, units}
 
 pub both : {R : Type 0} {a b c d : R} → a ≡ c → b ≡ d → ◌≡◌ {A = Pair R} (record { re = a; im = b }) (record { re = c; im = d })

@@ -1,5 +1,5 @@
 -- The numbers below n, as a ring.
-use Rattle.std.specs.Prelude.{ℕ, zero, suc, ◌+◌, ◌-◌, ◌*◌, ◌%◌, ◌^◌, ◌<◌}
+use Rattle.std.specs.Prelude.{ℕ, ◌+◌, ◌-◌, ◌*◌, ◌%◌, ◌^◌, ◌<◌}
 use Rattle.std.proofs.Common.{mod-lt, lit<}
 use Rattle.cyclotomic.specs.Ring.{Ops}
 use Rattle.cyclotomic.specs.Adjoin.{Pair, tower}

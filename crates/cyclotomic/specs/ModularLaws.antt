@@ -1,10 +1,9 @@
-use Rattle.std.specs.Prelude.{◌≡◌, ℕ, zero, suc, ◌+◌, ◌-◌, ◌*◌, ◌/◌, ◌%◌, ◌^◌, ◌<◌, ◌≤◌, refl}
-use Rattle.std.proofs.Common.{sym, ap, ap₂, ◌∙◌, mod-lt, add-zero, add_comm, add_assoc, mul-one, mul_comm, mul_assoc, mul-add, add-mul, mod-eq_of_lt, arith, lit<}
+use Rattle.std.specs.Prelude.{◌≡◌, ℕ, ◌+◌, ◌-◌, ◌*◌, ◌/◌, ◌%◌, ◌^◌, ◌<◌, refl}
+use Rattle.std.proofs.Common.{sym, ap, ◌∙◌, add-zero, add_comm, add_assoc, mul-one, mul_comm, mul_assoc, mul-add, add-mul, mod-eq_of_lt, arith, lit<}
 use mathlib.Core.HLevel.{Σ_prop_path}
 use Rattle.std.proofs.Math.Bridge.{le_prop}
-use Rattle.std.proofs.Math.Nat.{mod-mod, mod_self, zero-mod, mod-add-mod, add-mod-mod, add-mul-mod_self_left, mod-add-div}
-use Rattle.cyclotomic.specs.Ring.{Ops, CommLaws, RingLaws}
-use Rattle.cyclotomic.specs.Adjoin.{tower}
+use Rattle.std.proofs.Math.Nat.{mod_self, zero-mod, mod-add-mod, add-mod-mod, add-mul-mod_self_left, mod-add-div}
+use Rattle.cyclotomic.specs.Ring.{CommLaws, RingLaws}
 use Rattle.cyclotomic.specs.Modular.{Below, low, residues, seventeen, quads}
 use Rattle.cyclotomic.specs.AdjoinLaws
 

@@ -9,7 +9,7 @@ use crate::scalar::Scalar;
 
 // base^exponent, by squaring.
 pub fn power<R: Ring>(base: R, exponent: u64) -> R
-    ensures { value result ≡ powerOf ops (value base) exponent }
+    ensures { R.value result ≡ powerOf R.ops (R.value base) exponent }
 {
     let mut result = R::one();
     let mut square = base;
@@ -26,14 +26,14 @@ pub fn power<R: Ring>(base: R, exponent: u64) -> R
 
 // omega + omega^7, a square root of 2.
 pub fn root<R: Ring>() -> R
-    ensures { value result ≡ rootOf ops }
+    ensures { R.value result ≡ rootOf R.ops }
 {
     power(R::omega(), 1).plus(power(R::omega(), 7))
 }
 
 // The scalar as a value of the ring: the ring's zero, or root^power · omega^turn.
 pub fn embed<R: Ring>(x: Scalar) -> Result<R, Refusal>
-    ensures { MatchResult result (λ v. (Negative (triple_of x) → ⊥) × (value v ≡ embedded ops (triple_of x))) (λ e. Negative (triple_of x) × (number_of e ≡ 25)) }
+    ensures { MatchResult result (λ v. (Negative (triple_of x) → ⊥) × (R.value v ≡ embedded R.ops (triple_of x))) (λ e. Negative (triple_of x) × (number_of e ≡ 25)) }
 {
     if x.power() < 0 {
         return Err(Refusal::NegativePower);

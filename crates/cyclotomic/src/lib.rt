@@ -1,4 +1,6 @@
 // Exact scalars, and the rings that they are put into.
+#![tactic(auto)]
+
 pub mod embedding;
 pub mod mod17;
 pub mod quads;

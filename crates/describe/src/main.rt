@@ -1,4 +1,6 @@
 // Describes an archive: standard input has its bytes, standard output gets a line for each of its states and for each pair of them.
+#![tactic(auto)]
+
 use listing::description::write_description;
 use std::io;
 use std::io::{BufWriter, Read, Write};

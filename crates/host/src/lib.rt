@@ -1,4 +1,6 @@
 // The overlap of two states for programs written in C.
+#![tactic(auto)]
+
 ghost use Rattle.std.specs.Prelude.{◌≡◌, ℕ, ◌<◌, ◌≤◌, length, IfOk, MatchResult, slice_index};
 ghost use Rattle.cyclotomic.specs.Scalars.{triple_of};
 ghost use Rattle.host.specs.declared.Denial.TheVariants.{Fault, Refused};

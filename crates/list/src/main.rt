@@ -1,4 +1,6 @@
 // Lists an archive: standard input has its bytes, standard output gets a line for each pair of its states.
+#![tactic(auto)]
+
 use listing::sheets::write_listing;
 use std::io;
 use std::io::{BufWriter, Read, Write};

@@ -1,5 +1,5 @@
 -- Hexadecimal digits as they are printed.
-use Rattle.std.specs.Prelude.{◌≡◌, ℕ, zero, suc, ◌+◌, ◌-◌, ◌*◌, ◌/◌, ◌%◌, ◌^◌, ◌<◌, ◌≤◌, true, cond, ◌⊎◌, List, [], ◌∷◌, length, is_some, Some, None, Option, nat_lt, slice_index}
+use Rattle.std.specs.Prelude.{◌≡◌, ℕ, zero, suc, ◌+◌, ◌-◌, ◌*◌, ◌/◌, ◌%◌, ◌<◌, true, cond, ◌⊎◌, List, [], ◌∷◌, length, is_some, Some, None, Option, nat_lt, slice_index}
 use Rattle.std.specs.Option.{unwrap_or}
 
 -- the byte that stands for a digit, in small letters

@@ -1,5 +1,5 @@
 -- What the listing says of two states.
-use Rattle.std.specs.Prelude.{◌≡◌, ℕ, T}
+use Rattle.std.specs.Prelude.{ℕ, T}
 use Rattle.cyclotomic.specs.Refusals.{number_of}
 use Rattle.quadratic.specs.declared.intersection.Intersection.{Intersection}
 use Rattle.stabilizer.specs.Overlaps.{Intersects, Overlaps}

@@ -1,5 +1,5 @@
 -- The text of each part of a listing.
-use Rattle.std.specs.Prelude.{ℕ, zero, suc, ◌+◌, ◌/◌, ◌%◌, Bool, true, false, cond, ltb, List, [], ◌∷◌, ◌++◌, Some, None, Ok, Err, codes, decimal, Option, Result}
+use Rattle.std.specs.Prelude.{ℕ, ◌/◌, ◌%◌, Bool, true, false, List, ◌++◌, Some, None, Ok, Err, codes, decimal, Option, Result}
 use Rattle.std.specs.Fmt.{signed_decimal}
 use Rattle.cyclotomic.specs.Columns.{hexAt, word_at}
 use Rattle.cyclotomic.specs.Refusals.{number_of}
@@ -8,7 +8,6 @@ use Rattle.cyclotomic.specs.declared.refusal.Refusal.{Refusal}
 use Rattle.cyclotomic.specs.declared.scalar.Scalar.{Scalar}
 use Rattle.listing.specs.declared.columns.Columns.{Columns}
 use Rattle.listing.specs.declared.fault_line.FaultLine.{FaultLine}
-use Rattle.listing.specs.declared.comparison.Comparison.{Comparison}
 use Rattle.listing.specs.declared.comparison.Outcome.{Outcome}
 use Rattle.listing.specs.declared.comparison.Outcome.TheVariants.{Refused, Compared}
 use Rattle.listing.specs.declared.comparison.PairLine.{PairLine}

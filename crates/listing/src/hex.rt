@@ -113,7 +113,7 @@ fn write_pairs<W: fmt::Write>(f: &mut fmt::Formatter<W>, part: &[u8]) -> fmt::Re
 
 // Writes text that is given as bytes.
 pub fn write_ascii<W: fmt::Write>(f: &mut fmt::Formatter<W>, bytes: &[u8]) -> fmt::Result
-    ensures { WritesOnOk write_str_gives f.old result bytes.now f.new }
+    ensures { WritesOnOk W.Write.write_str_gives f.old result bytes.now f.new }
 {
     match std::str::from_utf8(bytes) {
         Ok(text) => f.write_str(text),

@@ -1,4 +1,6 @@
 // The listing of an archive, a line for each pair of its states, and its description.
+#![tactic(auto)]
+
 pub mod columns;
 pub mod comparison;
 pub mod description;

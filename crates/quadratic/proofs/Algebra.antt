@@ -1,12 +1,11 @@
 -- The algebra of quadratic forms over functions: no mask, no code.
-use Rattle.std.proofs.Common.{◌≡◌, ℕ, zero, suc, ◌+◌, ◌-◌, ◌*◌, ◌/◌, ◌%◌, ◌^◌, ◌<◌, ◌≤◌, ◌≢◌, sym, refl, ap, ◌∙◌, ap₂, lt_of_lt_of_le, add-zero, mod-lt, mod-eq_of_lt, mul_comm, add-mul, one-mul, pow-suc, mul-zero, zero-add, zero-mul, mul-one, mul-add, add-one, arith, pow_pos, pow_mono, below_more}
-use mathlib.Core.Path.{fun_ext}
+use Rattle.std.proofs.Common.{◌≡◌, ℕ, zero, suc, ◌+◌, ◌*◌, ◌%◌, ◌^◌, ◌<◌, ◌≢◌, sym, refl, ap, ◌∙◌, ap₂, lt_of_lt_of_le, add-zero, mod-lt, mod-eq_of_lt, mul_comm, add-mul, one-mul, pow-suc, mul-zero, zero-add, zero-mul, mul-one, mul-add, add-one, arith, pow_pos, pow_mono, below_more}
 use lib.Pow.{pow-lt}
 use native.Mathlib.Decide.{dec_lt}
 use native.Mathlib.Nat.{add-mul-mod_self_left}
 use Rattle.quadratic.specs.Bits.{bit, sum, inner}
 use Rattle.quadratic.specs.Quadratic.{quad}
-use Rattle.quadratic.proofs.Bitlaws.{digit, digit₂, digit₃, bit-lt, bit_past, bit-under, bit-top, bit-zero, bit-pow, bit-pow-other}
+use Rattle.quadratic.proofs.Bitlaws.{digit, digit₂, digit₃, bit_past, bit-under, bit-top, bit-zero, bit-pow, bit-pow-other}
 
 -- numbers that differ by multiples of 8
 pub carry : (x y i j : ℕ) → x + 8 * i ≡ y + 8 * j → x % 8 ≡ y % 8

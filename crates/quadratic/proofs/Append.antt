@@ -1,8 +1,8 @@
 -- Rows that may stand below the others.
-use Rattle.std.proofs.Common.{◌≡◌, ℕ, zero, suc, ◌+◌, ◌*◌, ◌%◌, ◌^◌, ◌<◌, ◌≤◌, sym, refl, ap, ◌∙◌, subst, ap₂, zero-add, zero-mul, arith}
+use Rattle.std.proofs.Common.{◌≡◌, ℕ, suc, ◌*◌, ◌%◌, ◌^◌, ◌<◌, ◌≤◌, sym, refl, ap, ◌∙◌, zero-mul, arith}
 use native.Mathlib.Decide.{dec_lt}
 use native.Mathlib.Nat.{zero-mod}
-use lib.Bits.{bit_and, bit_xor, xor_zero_l, xor_zero_r}
+use lib.Bits.{bit_and}
 use Rattle.quadratic.specs.Bits.{bit}
 use Rattle.quadratic.specs.Strings.{Fitting}
 use Rattle.quadratic.specs.declared.affine.AffineSpace.{AffineSpace}

@@ -1,10 +1,10 @@
-use Rattle.std.proofs.Common.{◌≡◌, ℕ, zero, suc, ◌+◌, ◌-◌, ◌*◌, ◌/◌, ◌%◌, ◌^◌, ◌<◌, ◌≤◌, ◌≢◌, sym, refl, ap, ◌∙◌, ap₂, lt_of_lt_of_le, lt_of_le_of_lt, add-zero, mod-lt, mod-eq_of_lt, zero-lt-suc, add_comm, one-mul, add-one, one-add, arith, pow_pos, pow_mono}
+use Rattle.std.proofs.Common.{◌≡◌, ℕ, zero, suc, ◌+◌, ◌-◌, ◌*◌, ◌/◌, ◌%◌, ◌^◌, ◌<◌, ◌≤◌, ◌≢◌, sym, refl, ap, ◌∙◌, ap₂, lt_of_lt_of_le, lt_of_le_of_lt, add-zero, mod-lt, mod-eq_of_lt, add_comm, one-mul, add-one, one-add, arith, pow_pos, pow_mono}
 use mathlib.Core.Path.{fun_ext}
 use native.Mathlib.Nat.{zero-div, div-eq_of_lt, mod-one}
 use native.Mathlib.Decide.{dec_lt}
-use lib.Bits.{bit_and, bit_or, bit_xor, or_shr, or_mod, xor_shr, xor_mod, and_shr, and_mod, and_le_l, and_comm}
+use lib.Bits.{bit_and, bit_or, bit_xor, or_shr, or_mod, xor_shr, xor_mod, and_shr, and_mod, and_le_l}
 use lib.Pow.{pow-lt, mod-pow-add, field, mod-mod-pow, high, low}
-use lib.Count.{ones, ones_cat, ones_step}
+use lib.Count.{ones, ones_cat}
 use Rattle.quadratic.specs.Bits.{bit, dot, sum, inner}
 
 -- a statement about a bit is a statement about 0 and 1

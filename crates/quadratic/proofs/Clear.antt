@@ -1,11 +1,10 @@
 -- One variable turned over, and one variable cleared.
-use Rattle.std.proofs.Common.{◌≡◌, ℕ, zero, suc, ◌+◌, ◌-◌, ◌*◌, ◌/◌, ◌%◌, ◌^◌, ◌<◌, ◌≤◌, ◌≢◌, List, [], ◌∷◌, get_or, set, sym, refl, ap, ◌∙◌, ap₂, add-zero, mod-eq_of_lt, mul-zero, mul-one, arith, get_or-set_other, pow_pos}
+use Rattle.std.proofs.Common.{◌≡◌, ℕ, zero, suc, ◌+◌, ◌*◌, ◌%◌, ◌^◌, ◌<◌, ◌≢◌, List, [], ◌∷◌, get_or, set, sym, refl, ap, ◌∙◌, ap₂, add-zero, mod-eq_of_lt, mul-zero, mul-one, arith, get_or-set_other, pow_pos}
 use native.Mathlib.Decide.{ℕ_discrete}
 use native.Mathlib.Nat.{mod-mod}
 use lib.Bits.{bit_and, bit_xor, xor_lt, and_le_l}
 use lib.Count.{ones}
-use lib.Pow.{pow-lt}
-use Rattle.quadratic.specs.Bits.{bit, dot, inner, RowsXor}
+use Rattle.quadratic.specs.Bits.{bit, dot, RowsXor}
 use Rattle.quadratic.specs.Quadratic.{quad, coef, link}
 use Rattle.quadratic.specs.Value.{value_at}
 use Rattle.quadratic.specs.declared.form.QuadraticForm.{QuadraticForm}

@@ -1,11 +1,10 @@
 -- The closed form of a sum in every ring, from its value in Z[ω].
-use Rattle.std.proofs.Common.{◌≡◌, ℕ, zero, suc, ◌^◌, ◌<◌, ◌≤◌, ℤ, pos, negsuc, ◌<ℤ◌, sym, refl, ap, ◌∙◌, ap₂, arith}
+use Rattle.std.proofs.Common.{◌≡◌, ℕ, zero, suc, ◌^◌, ◌<◌, ℤ, pos, ◌<ℤ◌, sym, refl, ap, ◌∙◌, ap₂, arith}
 use borrow.Author.Differences.{ints}
 use lib.Count.{ones}
 use Rattle.cyclotomic.specs.Adjoin.{omegas}
-use Rattle.cyclotomic.specs.Ring.{Ops, RingLaws, wpow, exact}
-use Rattle.cyclotomic.specs.Scalars.{Triple, triple_of, nought, embedded, chosen, Negative}
-use Rattle.cyclotomic.specs.Sum.{sum_to}
+use Rattle.cyclotomic.specs.Ring.{Ops, RingLaws}
+use Rattle.cyclotomic.specs.Scalars.{triple_of, embedded, chosen, Negative}
 use Rattle.cyclotomic.specs.declared.scalar.Scalar.{Scalar}
 use Rattle.cyclotomic.proofs.Extend.{transfer, transfer-nil}
 use Rattle.cyclotomic.proofs.Scalars.{exact-not-nil}

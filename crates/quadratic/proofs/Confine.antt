@@ -1,7 +1,7 @@
 -- Strings that agree with a space at more and more positions.
 use Rattle.std.proofs.Common.{◌≡◌, ℕ, ◌+◌, ◌^◌, ◌<◌, ◌≤◌, Some, None, Option, sym, refl, ap, ◌∙◌, subst, lt_of_lt_of_le, lt_of_le_of_lt, mod-eq_of_lt, add-one, arith, pow_mono}
 use native.Mathlib.Decide.{ℕ_discrete, dec_lt}
-use lib.Bits.{bit_and, bit_xor, xor_lt, and_le_r}
+use lib.Bits.{bit_and, xor_lt, and_le_r}
 use lib.Count.{ones}
 use Rattle.quadratic.specs.Bits.{bit, dot, sum}
 use Rattle.quadratic.specs.Echelon.{row, combination, reduced}

@@ -1,16 +1,15 @@
 -- Two spaces with the same strings are the same.
-use Rattle.std.proofs.Common.{◌≡◌, ℕ, zero, suc, ◌+◌, ◌*◌, ◌%◌, ◌^◌, ◌<◌, ◌≤◌, get_or, sym, refl, ap, ◌∙◌, subst, ap₂, lt_of_lt_of_le, lt_of_le_of_lt, mod-lt, mod-eq_of_lt, one-mul, zero-mul, arith, pow_pos, pow_mono}
-use mathlib.Core.Path.{fun_ext}
+use Rattle.std.proofs.Common.{◌≡◌, ℕ, zero, suc, ◌+◌, ◌*◌, ◌%◌, ◌^◌, ◌<◌, ◌≤◌, sym, refl, ap, ◌∙◌, ap₂, lt_of_lt_of_le, lt_of_le_of_lt, mod-lt, mod-eq_of_lt, one-mul, zero-mul, arith, pow_pos, pow_mono}
 use native.Mathlib.Decide.{dec_lt}
-use lib.Bits.{bit_and, bit_xor, xor_comm, xor_lt, xor_zero_r, xor_zero_l, xor_self, xor_assoc, and_le_l, and_le_r}
-use Rattle.quadratic.specs.Bits.{span, bit, dot}
+use lib.Bits.{bit_and, bit_xor, xor_comm, xor_lt, xor_zero_l, xor_self, and_le_l}
+use Rattle.quadratic.specs.Bits.{span, bit}
 use Rattle.quadratic.proofs.Bitlaws.{digit, digit₂, bit-lt, bit-and, bit_past, mod-more}
 use Rattle.quadratic.proofs.Dots.{by_bits}
 use Rattle.quadratic.specs.Echelon.{row, combination, reduced}
 use Rattle.quadratic.specs.Strings.{Member, SameStrings}
 use Rattle.quadratic.specs.declared.affine.AffineSpace.{AffineSpace}
 use Rattle.quadratic.proofs.Linear.{move}
-use Rattle.quadratic.proofs.Laws.{Facts, facts, holds, member, shift_in, comb-pow, red-linear, red-keep, lead-bit}
+use Rattle.quadratic.proofs.Laws.{facts, holds, shift_in, comb-pow, red-linear, red-keep, lead-bit}
 
 -- no row reaches above its own position
 pub span-lt : (R : ℕ → ℕ) → ((p : ℕ) → R p < 2 ^ suc p) → (c n m : ℕ) → c < 2 ^ n → span R c m < 2 ^ n

@@ -1,13 +1,12 @@
 -- The laws of `dot`, and those of `bit_and` that the library has not: digit by digit.
-use Rattle.std.proofs.Common.{◌≡◌, ℕ, zero, suc, ◌+◌, ◌-◌, ◌*◌, ◌/◌, ◌%◌, ◌^◌, ◌<◌, ◌≤◌, sym, refl, ap, ◌∙◌, ap₂, lt_of_le_of_lt, mod-eq_of_lt, mul_assoc, mul_comm, pow-suc, arith, pow_pos, pow_mono}
+use Rattle.std.proofs.Common.{◌≡◌, ℕ, zero, suc, ◌+◌, ◌*◌, ◌%◌, ◌^◌, ◌<◌, ◌≤◌, refl, ap, ◌∙◌, ap₂, mod-eq_of_lt, mul_assoc, mul_comm, pow-suc, arith, pow_pos, pow_mono}
 use mathlib.Core.Path.{fun_ext}
-use native.Mathlib.Nat.{mod-mod}
-use lib.Bits.{bit_and, bit_xor, and_comm, xor_lt, xor_comm, xor_assoc, xor_self, xor_zero_r}
+use lib.Bits.{bit_and, bit_xor, and_comm}
 use lib.Pow.{pow-lt}
 use lib.Count.{ones}
-use Rattle.quadratic.specs.Bits.{bit, dot, sum, inner}
-use Rattle.quadratic.proofs.Bitlaws.{digit₂, digit₃, bit-lt, bit-xor, bit-and, same_bits, dot-inner, bit-pow, bit-pow-other}
-use Rattle.quadratic.proofs.Algebra.{inner-add, inner-xor, inner-one}
+use Rattle.quadratic.specs.Bits.{bit, dot, sum}
+use Rattle.quadratic.proofs.Bitlaws.{digit₃, bit-lt, bit-xor, bit-and, same_bits, dot-inner, bit-pow, bit-pow-other}
+use Rattle.quadratic.proofs.Algebra.{inner-xor, inner-one}
 
 -- a number has fewer digits than its value
 pub below-pow : (x : ℕ) → x < 2 ^ x

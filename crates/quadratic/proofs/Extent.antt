@@ -1,7 +1,7 @@
 -- How long the strings of a space are, and the bound of their phases.
 use Rattle.std.proofs.Common.{◌≡◌, ℕ, ◌%◌, ◌^◌, ◌<◌, Some, Option, sym, refl, ap, ◌∙◌, subst, mod-lt, arith, pow_pos}
 use native.Mathlib.Decide.{dec_lt}
-use lib.Bits.{bit_and, bit_xor, xor_comm, xor_lt}
+use lib.Bits.{bit_xor, xor_comm, xor_lt}
 use Rattle.quadratic.specs.Bits.{bit}
 use Rattle.quadratic.specs.Echelon.{row}
 use Rattle.quadratic.specs.Phase.{phase}
@@ -12,7 +12,7 @@ use Rattle.quadratic.specs.declared.phased.PhasedSpace.{PhasedSpace}
 use Rattle.quadratic.proofs.Bitlaws.{digit, bit-lt, bit-low, bit_past}
 use Rattle.quadratic.proofs.Confine.{member-under}
 use Rattle.quadratic.proofs.Dots.{by_bits}
-use Rattle.quadratic.proofs.Laws.{facts, holds, member_is, shift_in, lead-bit}
+use Rattle.quadratic.proofs.Laws.{facts, shift_in, lead-bit}
 use Rattle.quadratic.proofs.Left.{left-row, left-none}
 use Rattle.quadratic.proofs.Linear.{back}
 use Rattle.quadratic.proofs.Lowest.{set_below}

@@ -1,5 +1,5 @@
 -- One variable fixed: from the laws of shift and substitution alone.
-use Rattle.std.proofs.Common.{◌≡◌, ℕ, ◌+◌, ◌*◌, ◌%◌, ◌^◌, ◌<◌, sym, refl, ap, ◌∙◌, ap₂, one-mul, mul-zero, zero-mul, mul-one}
+use Rattle.std.proofs.Common.{◌≡◌, ℕ, ◌*◌, ◌^◌, ◌<◌, sym, ap, ◌∙◌, one-mul, mul-zero, zero-mul, mul-one}
 use lib.Bits.{bit_xor, xor_assoc, xor_self, xor_zero_l, xor_zero_r, xor_lt}
 use Rattle.quadratic.specs.Bits.{bit, dot}
 use Rattle.quadratic.proofs.Bitlaws.{digit, bit-lt, bit-pow}

@@ -1,19 +1,18 @@
 -- One direction more: a new row, whose pivot goes from the others.
-use Rattle.std.proofs.Common.{◌≡◌, ℕ, zero, suc, ◌+◌, ◌*◌, ◌%◌, ◌^◌, ◌<◌, ◌≤◌, ◌≢◌, ◌⊎◌, sym, refl, ap, ◌∙◌, ap₂, inl, inr, lt_of_lt_of_le, lt_of_le_of_lt, one-mul, mul-zero, zero-mul, mul-one, arith, pow_pos, pow_mono}
+use Rattle.std.proofs.Common.{◌≡◌, ℕ, suc, ◌*◌, ◌^◌, ◌<◌, ◌≤◌, ◌⊎◌, sym, refl, ap, ◌∙◌, ap₂, inl, inr, lt_of_lt_of_le, lt_of_le_of_lt, one-mul, mul-zero, zero-mul, mul-one, arith, pow_pos, pow_mono}
 use native.Mathlib.Decide.{ℕ_discrete, dec_lt}
-use lib.Bits.{bit_and, bit_xor, xor_assoc, xor_comm, xor_self, xor_zero_l, xor_zero_r, xor_lt, and_comm, and_self, and_le_r, and_zero_l}
+use lib.Bits.{bit_and, bit_xor, xor_assoc, xor_comm, xor_self, xor_zero_l, xor_zero_r, xor_lt, and_comm, and_self, and_le_r}
 use lib.Pow.{pow-lt}
-use Rattle.quadratic.specs.Bits.{bit, dot, RowsXor}
+use Rattle.quadratic.specs.Bits.{bit, RowsXor}
 use Rattle.quadratic.proofs.Bitlaws.{digit, digit₂, bit-lt, bit-and, bit-zero, bit-pow, bit-pow-other, bit_past}
 use Rattle.quadratic.proofs.Dots.{and_assoc, and_xor, dot-pow, dot-comm}
 use Rattle.quadratic.proofs.Rows.{pick-lt}
-use Rattle.quadratic.proofs.Lowest.{set_below}
 use Rattle.quadratic.specs.Echelon.{row, combination, reduced}
-use Rattle.quadratic.specs.Strings.{Member, Doubled}
+use Rattle.quadratic.specs.Strings.{Doubled}
 use Rattle.quadratic.specs.declared.affine.AffineSpace.{AffineSpace}
-use Rattle.quadratic.proofs.Linear.{Linear, linear-pick, bit-linear, and-linear, sum-linear, pick-linear, pick-xor, swap, back, move}
+use Rattle.quadratic.proofs.Linear.{Linear, linear-pick, bit-linear, and-linear, sum-linear, pick-linear, pick-xor, back}
 use Rattle.quadratic.proofs.Linear.{cancel}
-use Rattle.quadratic.proofs.Laws.{Facts, comb-linear, comb-is, comb-pow, and_pow, and-twice, off-bit, red-linear, red-keep, facts, holds}
+use Rattle.quadratic.proofs.Laws.{Facts, comb-linear, comb-is, comb-pow, and_pow, off-bit, red-linear, red-keep, facts, holds}
 use Rattle.quadratic.proofs.Laws.{member}
 
 bit-swap : (p q : ℕ) → bit (2 ^ q) p ≡ bit (2 ^ p) q

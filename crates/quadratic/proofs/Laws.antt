@@ -1,19 +1,18 @@
 -- Combinations and membership in a space in reduced echelon form.
-use Rattle.std.proofs.Common.{◌≡◌, ℕ, zero, suc, ◌+◌, ◌*◌, ◌%◌, ◌^◌, ◌<◌, ◌≤◌, Bool, true, false, eqb, ◌≢◌, sym, refl, ap, ◌∙◌, ap₂, lt_of_le_of_lt, mod-lt, one-mul, mul-zero, zero-mul, mul-one, arith, pow_pos}
-use mathlib.Core.Path.{fun_ext}
+use Rattle.std.proofs.Common.{◌≡◌, ℕ, zero, suc, ◌*◌, ◌%◌, ◌^◌, ◌<◌, Bool, true, false, eqb, sym, refl, ap, ◌∙◌, ap₂, lt_of_le_of_lt, mod-lt, one-mul, mul-zero, zero-mul, mul-one, arith, pow_pos}
 use native.Mathlib.Decide.{ℕ_discrete, dec_lt}
-use lib.Bits.{bit_and, bit_xor, xor_assoc, xor_comm, xor_self, xor_zero_l, xor_zero_r, and_comm, and_self, and_le_r, and_zero_r, and_zero_l}
+use lib.Bits.{bit_and, bit_xor, xor_self, xor_zero_l, xor_zero_r, and_comm, and_self, and_le_r}
 use lib.Count.{ones}
 use Rattle.quadratic.specs.Bits.{span, bit, dot}
-use Rattle.quadratic.proofs.Bitlaws.{digit, bit-lt, bit-and, bit-zero, bit-pow, bit-pow-other, bit_past, bit-low}
-use Rattle.quadratic.proofs.Dots.{by_bits, and_assoc, dot-pow, dot-comm}
+use Rattle.quadratic.proofs.Bitlaws.{digit, bit-lt, bit-and, bit-zero, bit-pow, bit-pow-other, bit-low}
+use Rattle.quadratic.proofs.Dots.{by_bits, and_assoc, dot-pow}
 use Rattle.quadratic.proofs.Lowest.{set_below}
 use Rattle.quadratic.specs.Bits.{flag}
 use Rattle.quadratic.specs.Echelon.{row, combination, reduced}
 use Rattle.quadratic.specs.Strings.{Member}
 use Rattle.quadratic.specs.declared.affine.AffineSpace.{AffineSpace}
 use Rattle.quadratic.proofs.Linear.{Linear, linear-zero, linear-pick, linear-span, span-linear, span-xor, bit-linear, dot-linear}
-use Rattle.quadratic.proofs.Linear.{and-linear, sum-linear, back, move, swap}
+use Rattle.quadratic.proofs.Linear.{and-linear, sum-linear, move}
 
 pub flag-lt : (b : Bool) → flag b < 2
 flag-lt true = omega arith

@@ -1,11 +1,11 @@
 -- Linear maps of strings, and the combinations of rows as such maps.
-use Rattle.std.proofs.Common.{◌≡◌, ℕ, zero, suc, ◌+◌, ◌*◌, ◌%◌, ◌^◌, ◌<◌, ◌≤◌, sym, refl, ap, ◌∙◌, ap₂, mod-lt, mod-eq_of_lt, one-mul, zero-mul, arith, pow_pos}
+use Rattle.std.proofs.Common.{◌≡◌, ℕ, zero, suc, ◌+◌, ◌*◌, ◌%◌, ◌^◌, ◌<◌, sym, refl, ap, ◌∙◌, ap₂, mod-lt, mod-eq_of_lt, one-mul, zero-mul, pow_pos}
 use mathlib.Core.Path.{fun_ext}
 use native.Mathlib.Nat.{mod-one}
 use lib.Bits.{bit_and, bit_xor, xor_assoc, xor_comm, xor_self, xor_zero_l, xor_zero_r, xor_shifted, and_comm}
 use Rattle.quadratic.specs.Bits.{bit, dot, span}
 use Rattle.quadratic.proofs.Bitlaws.{digit, digit₂, bit-lt, bit-xor, mod-more}
-use Rattle.quadratic.proofs.Dots.{dot-xor-r, dot-xor-l, dot-comm, dot-lt, dot-pow, and_xor}
+use Rattle.quadratic.proofs.Dots.{dot-xor-r, dot-lt, and_xor}
 
 -- ---- sums
 

@@ -1,5 +1,5 @@
 -- The lowest set bit of a mask, and the mask without it.
-use Rattle.std.proofs.Common.{◌≡◌, ℕ, zero, suc, ◌+◌, ◌-◌, ◌*◌, ◌/◌, ◌%◌, ◌^◌, ◌<◌, ◌≤◌, ◌≢◌, sym, refl, ap, ◌∙◌, ap₂, add-zero, mod-eq_of_lt, one-mul, pow-suc, mul-zero, mul-one, div-one, add-one, one-add, arith, pow_pos, shr-shr}
+use Rattle.std.proofs.Common.{◌≡◌, ℕ, zero, suc, ◌+◌, ◌*◌, ◌/◌, ◌%◌, ◌^◌, ◌<◌, ◌≤◌, ◌≢◌, sym, refl, ap, ◌∙◌, ap₂, add-zero, mod-eq_of_lt, one-mul, pow-suc, mul-zero, div-one, one-add, arith, pow_pos, shr-shr}
 use native.Mathlib.Decide.{ℕ_discrete, dec_lt}
 use lib.Bits.{bit_and, bit_xor, xor_add_and, xor_lt}
 use lib.Count.{ones, count_trailing_zeros, under}

@@ -1,7 +1,7 @@
 -- The strings of two spaces with the difference of their phases.
-use Rattle.std.proofs.Common.{◌≡◌, ℕ, zero, suc, ◌+◌, ◌-◌, ◌*◌, ◌%◌, ◌^◌, ◌<◌, Some, None, Option, sym, refl, ap, ◌∙◌, ap₂, lt_of_le_of_lt, arith}
+use Rattle.std.proofs.Common.{◌≡◌, ℕ, ◌+◌, ◌-◌, ◌*◌, ◌%◌, ◌^◌, ◌<◌, Some, None, Option, sym, refl, ap, ◌∙◌, ap₂, lt_of_le_of_lt, arith}
 use native.Mathlib.Decide.{ℕ_discrete}
-use lib.Bits.{bit_and, bit_or, bit_xor, or_lt, xor_lt, xor_self, and_le_l, and_comm}
+use lib.Bits.{bit_and, bit_or, bit_xor, or_lt, xor_lt, xor_self, and_le_l}
 use Rattle.quadratic.specs.Bits.{bit}
 use Rattle.quadratic.specs.Echelon.{row, reduced}
 use Rattle.quadratic.specs.Phase.{phase, less}
@@ -13,8 +13,7 @@ use Rattle.quadratic.proofs.Dots.{by_bits}
 use Rattle.quadratic.proofs.Laws.{holds, member, and-twice}
 use Rattle.quadratic.proofs.Linear.{and-linear, bit-linear}
 use Rattle.quadratic.proofs.Phases.{phase-in, phase-out}
-use Rattle.quadratic.proofs.Sight.{Seen, wider}
-use Rattle.quadratic.proofs.Values.{value-lt}
+use Rattle.quadratic.proofs.Sight.{Seen}
 
 -- the variables of two forms that are no pivots of the space in which they meet
 module _ (P S T : ℕ) where

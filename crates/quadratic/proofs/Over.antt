@@ -1,8 +1,7 @@
 -- Sums over the parts of a mask, in any ring.
-use Rattle.std.proofs.Common.{◌≡◌, ℕ, zero, suc, ◌+◌, ◌-◌, ◌*◌, ◌/◌, ◌%◌, ◌^◌, ◌<◌, ◌≤◌, cond, eqb, ◌≢◌, sym, refl, ap, ◌∙◌, subst, ap₂, add-zero, add-suc, mod-eq_of_lt, suc-add, one-mul, pow-suc, zero-add, zero-mul, add-one, arith, pow_pos, pow_mono}
-use native.Mathlib.Decide.{ℕ_discrete, dec_lt}
-use lib.Bits.{bit_and, bit_xor, xor_assoc, xor_comm, xor_shifted, xor_zero_l, xor_zero_r}
-use lib.Count.{ones}
+use Rattle.std.proofs.Common.{◌≡◌, ℕ, zero, suc, ◌+◌, ◌*◌, ◌/◌, ◌%◌, ◌^◌, ◌<◌, ◌≤◌, eqb, sym, refl, ap, ◌∙◌, ap₂, add-zero, add-suc, suc-add, one-mul, pow-suc, zero-add, zero-mul, add-one, arith, pow_pos}
+use native.Mathlib.Decide.{ℕ_discrete}
+use lib.Bits.{bit_and, bit_xor, xor_assoc, xor_comm, xor_shifted, xor_zero_r}
 use Rattle.std.proofs.lemmas.Bool.{eq-eqb, ne_eqb, cond-true, cond-false}
 use Rattle.cyclotomic.specs.Ring.{Ops, CommLaws}
 use Rattle.cyclotomic.specs.Sum.{sum_to}
@@ -11,7 +10,7 @@ use Rattle.cyclotomic.proofs.Sums
 use Rattle.quadratic.specs.Bits.{bit, sum}
 use Rattle.quadratic.specs.Numbering.{spread}
 use Rattle.quadratic.specs.Sums.{over}
-use Rattle.quadratic.proofs.Bitlaws.{digit, bit-lt, bit-zero, ones_low}
+use Rattle.quadratic.proofs.Bitlaws.{digit, bit-lt, bit-zero}
 use Rattle.quadratic.proofs.Laws.{and_pow}
 use Rattle.quadratic.proofs.Linear.{and-linear}
 use Rattle.quadratic.proofs.Lowest.{dropped, undropped}

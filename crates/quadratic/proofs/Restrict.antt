@@ -1,19 +1,19 @@
 -- The strings of a space where a parity has a given value: one row goes.
-use Rattle.std.proofs.Common.{◌≡◌, ℕ, zero, suc, ◌+◌, ◌*◌, ◌%◌, ◌^◌, ◌<◌, ◌≤◌, ◌≢◌, sym, refl, ap, ◌∙◌, ap₂, lt_of_lt_of_le, lt_of_le_of_lt, one-mul, mul-zero, zero-mul, mul-one, arith, pow_pos, pow_mono}
+use Rattle.std.proofs.Common.{◌≡◌, ℕ, suc, ◌*◌, ◌^◌, ◌<◌, ◌≤◌, sym, refl, ap, ◌∙◌, ap₂, lt_of_lt_of_le, lt_of_le_of_lt, one-mul, mul-zero, zero-mul, mul-one, arith, pow_pos, pow_mono}
 use native.Mathlib.Decide.{ℕ_discrete, dec_lt}
-use lib.Bits.{bit_and, bit_xor, xor_assoc, xor_comm, xor_self, xor_zero_l, xor_zero_r, xor_lt, and_comm, and_self, and_le_r, and_zero_l}
+use lib.Bits.{bit_and, bit_xor, xor_assoc, xor_self, xor_zero_l, xor_zero_r, xor_lt, and_comm, and_self, and_le_r, and_zero_l}
 use lib.Count.{ones}
 use lib.Pow.{pow-lt}
 use Rattle.quadratic.specs.Bits.{bit, dot, RowsXor}
-use Rattle.quadratic.proofs.Bitlaws.{digit, bit-lt, bit-and, bit-pow, bit-pow-other, bits-both}
-use Rattle.quadratic.proofs.Dots.{and_assoc, and_xor, dot-lt, dot-pow, dot-comm}
+use Rattle.quadratic.proofs.Bitlaws.{digit, bit-lt, bits-both}
+use Rattle.quadratic.proofs.Dots.{and_xor, dot-lt, dot-pow, dot-comm}
 use Rattle.quadratic.proofs.Rows.{pick-lt}
 use Rattle.quadratic.proofs.Lowest.{set_below, dropped, undropped, ones-drop}
 use Rattle.quadratic.specs.Echelon.{row, combination, reduced}
 use Rattle.quadratic.specs.Strings.{Member, Half}
 use Rattle.quadratic.specs.declared.affine.AffineSpace.{AffineSpace}
-use Rattle.quadratic.proofs.Linear.{Linear, linear-pick, bit-linear, dot-linear, and-linear, sum-linear, pick-linear, back, move, cancel}
-use Rattle.quadratic.proofs.Laws.{Facts, comb-linear, comb-is, comb-pow, comb-pivots, masked, and_pow, and-twice, part_same, off-bit}
+use Rattle.quadratic.proofs.Linear.{Linear, linear-pick, bit-linear, dot-linear, and-linear, sum-linear, pick-linear, cancel}
+use Rattle.quadratic.proofs.Laws.{Facts, comb-linear, comb-is, comb-pow, and_pow, and-twice, part_same, off-bit}
 use Rattle.quadratic.proofs.Laws.{red-clean, part_off, part-on, part-dot, lead-bit, facts, holds, member, response, dot-none}
 
 module _ (P : ℕ) (R : ℕ → ℕ) (h : ℕ) (f : Facts P R h) (l : ℕ) (part : bit_and l P ≡ l) (p : ℕ) (on : bit l p ≡ 1)

@@ -1,12 +1,12 @@
 -- From masks and tables to the functions of Algebra.
-use Rattle.std.proofs.Common.{◌≡◌, ℕ, zero, suc, ◌+◌, ◌-◌, ◌*◌, ◌/◌, ◌%◌, ◌^◌, ◌<◌, ◌≤◌, List, get_or, sym, refl, ap, ◌∙◌, ap₂, lt_of_lt_of_le, add-zero, mul_assoc, mul_comm, add-mul, one-mul, zero-mul, arith, pow_pos, pow_mono}
+use Rattle.std.proofs.Common.{◌≡◌, ℕ, ◌+◌, ◌*◌, ◌/◌, ◌%◌, ◌^◌, ◌<◌, ◌≤◌, List, get_or, sym, refl, ap, ◌∙◌, ap₂, lt_of_lt_of_le, add-zero, mul_assoc, mul_comm, add-mul, one-mul, zero-mul, arith, pow_pos, pow_mono}
 use native.Mathlib.Nat.{mul-add-mod_self_left, mod-mod}
 use lib.Bits.{bit_and, bit_xor, xor_lt}
 use Rattle.quadratic.specs.Bits.{bit, dot, inner, RowsXor}
 use Rattle.quadratic.specs.Quadratic.{quad, coef, link}
 use Rattle.quadratic.proofs.Bitlaws.{digit, digit₂, digit₃, bit-lt, bit-xor, bit-and, bit-zero, dot-inner}
-use Rattle.quadratic.proofs.Algebra.{Turns, turn_two, turn-four, add-parity, add-product, add8, four, shift, shift-bit, polar, cross}
-use Rattle.quadratic.proofs.Algebra.{cross-rows, sum-parity, quad-zero}
+use Rattle.quadratic.proofs.Algebra.{turn_two, turn-four, add-parity, add-product, add8, four, shift, shift-bit, polar, cross}
+use Rattle.quadratic.proofs.Algebra.{cross-rows, sum-parity}
 
 -- ---- one mask
 

@@ -1,5 +1,5 @@
 -- Phased spaces with the same phases have the same strings and forms with the same values.
-use Rattle.std.proofs.Common.{◌≡◌, ℕ, Some, None, Option, sym, refl, ap, ◌∙◌, subst, ap₂, arith}
+use Rattle.std.proofs.Common.{◌≡◌, ℕ, Some, Option, sym, refl, ap, ◌∙◌, arith}
 use native.Mathlib.Decide.{ℕ_discrete}
 use lib.Bits.{bit_and, bit_xor}
 use Rattle.quadratic.specs.Echelon.{row, combination, reduced}

@@ -1,9 +1,9 @@
 -- Which variables a form sees.
-use Rattle.std.proofs.Common.{◌≡◌, ℕ, ◌+◌, ◌*◌, ◌%◌, ◌^◌, ◌<◌, Some, None, Option, sym, refl, ap, ◌∙◌, subst, ap₂, zero-mul, mul-one, arith}
+use Rattle.std.proofs.Common.{◌≡◌, ℕ, ◌+◌, ◌*◌, ◌%◌, ◌^◌, ◌<◌, Some, None, Option, sym, refl, ap, ◌∙◌, ap₂, zero-mul, mul-one, arith}
 use lib.Bits.{bit_and, bit_xor, and_self, and_comm, xor_zero_r}
 use lib.Pow.{pow-lt}
 use Rattle.quadratic.specs.Bits.{bit, dot}
-use Rattle.quadratic.specs.Strings.{Fitting, Appended}
+use Rattle.quadratic.specs.Strings.{Appended}
 use Rattle.quadratic.specs.declared.affine.AffineSpace.{AffineSpace}
 use Rattle.quadratic.proofs.Bitlaws.{digit, bit-lt, bit-and}
 use Rattle.quadratic.proofs.Dots.{and_assoc, and_xor, dot-comm, dot-pow}

@@ -1,5 +1,5 @@
 -- A space inside another: its pivots are among the other's.
-use Rattle.std.proofs.Common.{◌≡◌, ℕ, zero, suc, ◌+◌, ◌*◌, ◌^◌, ◌<◌, ◌≤◌, sym, refl, ap, ◌∙◌, subst, lt_of_le_of_lt, one-mul, zero-mul, arith}
+use Rattle.std.proofs.Common.{◌≡◌, ℕ, zero, suc, ◌*◌, ◌^◌, ◌<◌, ◌≤◌, sym, refl, ap, ◌∙◌, subst, lt_of_le_of_lt, one-mul, zero-mul, arith}
 use lib.Bits.{bit_and, bit_xor, and_le_r, xor_zero_r}
 use lib.Count.{ones}
 use Rattle.quadratic.specs.Bits.{bit, sum}

@@ -1,10 +1,9 @@
 -- A parity in the place of a variable: from the contracts alone, over the value functions of the four forms on the way.
-use Rattle.std.proofs.Common.{◌≡◌, ℕ, zero, suc, ◌+◌, ◌-◌, ◌*◌, ◌/◌, ◌%◌, ◌^◌, ◌<◌, ◌≤◌, sym, refl, ap, ◌∙◌, subst, ap₂, add-zero, mod-eq_of_lt, one-mul, mul-zero, zero-mul, mul-one, arith}
+use Rattle.std.proofs.Common.{◌≡◌, ℕ, ◌+◌, ◌*◌, ◌%◌, ◌^◌, ◌<◌, sym, refl, ap, ◌∙◌, ap₂, add-zero, mod-eq_of_lt, one-mul, mul-zero, zero-mul, mul-one, arith}
 use native.Mathlib.Decide.{ℕ_discrete}
 use lib.Bits.{bit_and, bit_xor, xor_assoc, xor_self, xor_zero_r}
 use lib.Count.{ones}
 use Rattle.quadratic.specs.Bits.{bit, dot}
-use Rattle.quadratic.specs.Quadratic.{coef}
 use Rattle.quadratic.proofs.Bitlaws.{digit, bit-lt, bit-xor, bit-and, bit-pow}
 use Rattle.quadratic.proofs.Dots.{by_bits, dot-xor-r, dot-pow, dot-lt}
 use Rattle.quadratic.proofs.Clear.{keep}

@@ -1,13 +1,13 @@
 -- Variables summed out of a form, in any ring with w^4 = -1.
 use Rattle.std.proofs.Common.{◌≡◌, ℕ, ◌+◌, ◌-◌, ◌*◌, ◌%◌, ◌^◌, ◌<◌, sym, refl, ap, ◌∙◌, ap₂, add-zero, add-one, arith}
 use native.Mathlib.Nat.{mod-mod, mod-add-mod}
-use lib.Bits.{bit_and, bit_xor, and_self, and_comm}
+use lib.Bits.{bit_and, bit_xor, and_self}
 use Rattle.cyclotomic.specs.Ring.{Ops, RingLaws, wpow, rpow, root, two}
 use Rattle.cyclotomic.specs.CommFacts
 use Rattle.cyclotomic.proofs.RingFacts
 use Rattle.quadratic.specs.Bits.{bit, dot}
 use Rattle.quadratic.specs.Sums.{over}
-use Rattle.quadratic.proofs.Bitlaws.{digit, digit₂, bit-lt, bit-pow}
+use Rattle.quadratic.proofs.Bitlaws.{digit}
 use Rattle.quadratic.proofs.Dots.{dot-lt, dot-xor-r, dot-pow, dot-comm, and_assoc}
 use Rattle.quadratic.proofs.Laws.{dot-and, dot-none, and_pow}
 use Rattle.quadratic.proofs.Linear.{and-linear}

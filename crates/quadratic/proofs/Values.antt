@@ -1,5 +1,5 @@
 -- What the value of a form is known for, with its sum of 48 terms kept shut.
-use Rattle.std.proofs.Common.{◌≡◌, ℕ, zero, suc, ◌+◌, ◌*◌, ◌%◌, ◌<◌, sym, refl, ap, ◌∙◌, mod-lt, mod-eq_of_lt, arith, lit<}
+use Rattle.std.proofs.Common.{◌≡◌, ℕ, zero, suc, ◌+◌, ◌*◌, ◌%◌, ◌<◌, refl, ap, mod-lt, mod-eq_of_lt, arith, lit<}
 use Rattle.quadratic.specs.Bits.{bit, inner}
 use Rattle.quadratic.specs.Quadratic.{coef, link, quad}
 use Rattle.quadratic.proofs.Algebra.{quad-zero}

@@ -2,7 +2,7 @@
 use Rattle.std.specs.Prelude.{◌≡◌, ℕ, zero, suc, ◌+◌, ◌*◌, ◌%◌, ◌^◌, ◌<◌, ◌≤◌, Bool, true, false, cond, pos, Some, None, Option, ◌==◌, bit_xor, count_ones}
 use Rattle.cyclotomic.specs.Adjoin.{omegas}
 use Rattle.cyclotomic.specs.Ring.{Ops, wpow, rpow, exact}
-use Rattle.cyclotomic.specs.Scalars.{Triple, triple_of, nought, embedded}
+use Rattle.cyclotomic.specs.Scalars.{triple_of, nought, embedded}
 use Rattle.cyclotomic.specs.Sum.{sum_to}
 use Rattle.cyclotomic.specs.declared.scalar.Scalar.{Scalar}
 use Rattle.quadratic.specs.Bits.{bit}

@@ -1,4 +1,6 @@
 // Quadratic forms with values in Z8 on affine spaces of strings, and their exponential sums.
+#![tactic(auto)]
+
 pub mod affine;
 mod bits;
 pub mod coordinates;

@@ -27,7 +27,7 @@ pub struct RunningSum<R> {
 impl<R: Ring> RunningSum<R> {
     // No string added yet.
     pub fn new() -> RunningSum<R>
-        ensures { (value result.value ≡ ops.nil) × (result.count ≡ 0) }
+        ensures { (R.value result.value ≡ R.ops.nil) × (result.count ≡ 0) }
     {
         RunningSum {
             value: R::zero(),
@@ -39,7 +39,7 @@ impl<R: Ring> RunningSum<R> {
     pub fn add(&mut self, x: &Intersection) -> Result<(), Refusal>
         ensures number { answer_of result ≡ addNumber self.old.count x.now }
         ensures count { answer_of result ≡ 0 → self.new.count ≡ self.old.count + 1 }
-        ensures value { answer_of result ≡ 0 → value self.new.value ≡ ops.plus (value self.old.value) (termIn ops x.now self.old.count) }
+        ensures value { answer_of result ≡ 0 → R.value self.new.value ≡ R.ops.plus (R.value self.old.value) (termIn R.ops x.now self.old.count) }
         ensures refused { 0 < answer_of result → self.new ≡ self.old }
     {
         let Intersection::Space(s) = x else {
@@ -71,9 +71,9 @@ impl<R: Ring> RunningSum<R> {
 
 // The running sum to which every string of the intersection has been added.
 pub fn total<R: Ring>(x: &Intersection) -> RunningSum<R>
-    ensures value { value result.value ≡ total_of ops x.now }
+    ensures value { R.value result.value ≡ total_of R.ops x.now }
     ensures count { result.count ≡ stringsIn x.now }
-    ensures closed { (e : Scalar) → IsSum x.now e → value result.value ≡ embedded ops (triple_of e) }
+    ensures closed { (e : Scalar) → IsSum x.now e → R.value result.value ≡ embedded R.ops (triple_of e) }
 {
     let Intersection::Space(s) = x else {
         return RunningSum::new();
@@ -101,7 +101,7 @@ struct Powers<R> {
 
 impl<R: Ring> Powers<R> {
     fn new() -> Powers<R>
-        ensures { PowersOf ops value result }
+        ensures { PowersOf R.ops R.value result }
     {
         let p1 = R::omega();
         let p2 = p1.times(p1);
@@ -122,8 +122,8 @@ impl<R: Ring> Powers<R> {
     }
 
     fn at(&self, m: u8) -> R
-        requires { (PowersOf ops value self.now) × (m < 8) }
-        ensures { value result ≡ wpow ops m }
+        requires { (PowersOf R.ops R.value self.now) × (m < 8) }
+        ensures { R.value result ≡ wpow R.ops m }
     {
         match m {
             0 => self.p0,
@@ -143,8 +143,8 @@ fn branch<R: Ring>(form: &QuadraticForm, table: &Powers<R>, mask: u64, c: u64, p
     requires inside { mask < 2 ^ 48 }
     requires small { phase < 8 }
     requires here { phase ≡ value_at form.now c }
-    requires table { PowersOf ops value table.now }
-    ensures { value result ≡ over ops (formPower ops form.now) mask 48 c }
+    requires table { PowersOf R.ops R.value table.now }
+    ensures { R.value result ≡ over R.ops (formPower R.ops form.now) mask 48 c }
 {
     if mask == 0 {
         return table.at(phase);
@@ -157,7 +157,7 @@ fn branch<R: Ring>(form: &QuadraticForm, table: &Powers<R>, mask: u64, c: u64, p
 
 // The same sum by its closed form: the scalar of the exponential sum, embedded in the ring.
 pub fn closed_form<R: Ring>(x: &Intersection) -> R
-    ensures { value result ≡ total_of ops x.now }
+    ensures { R.value result ≡ total_of R.ops x.now }
 {
     match embed(exponential_sum(x)) {
         Ok(value) => value,

@@ -1,5 +1,5 @@
 -- What gates do to the phases of a space, and to the amplitudes of a state.
-use Rattle.std.proofs.Common.{◌≡◌, ℕ, ◌+◌, ◌-◌, ◌*◌, ◌%◌, ◌^◌, ◌<◌, Bool, true, false, pos, neg_ℤ, Some, None, Option, sym, refl, ap, ◌∙◌, subst, ap₂, arith}
+use Rattle.std.proofs.Common.{◌≡◌, ℕ, ◌+◌, ◌-◌, ◌%◌, ◌^◌, ◌<◌, Bool, true, false, pos, neg_ℤ, Some, None, Option, sym, refl, ap, ◌∙◌, subst, ap₂, arith}
 use lib.Bits.{bit_xor, xor_zero_r}
 use lib.Count.{ones}
 use Rattle.std.proofs.lemmas.Bool.{cond-true}

@@ -1,6 +1,6 @@
 -- The matrices of gates and Paulis: each moves the strings by an involution, and its inverse undoes the powers of ω.
-use Rattle.std.proofs.Common.{◌≡◌, ℕ, zero, suc, ◌+◌, ◌-◌, ◌*◌, ◌/◌, ◌%◌, ◌^◌, ◌<◌, ◌≤◌, true, false, not, eqb, leb, ◌≢◌, List, [], ◌∷◌, length, sym, refl, ap, ◌∙◌, subst, ap₂, add-zero, mod-eq_of_lt, one-mul, pow-suc, mul-zero, zero-mul, one-add, arith, pow_pos}
-use lib.Bits.{bit_xor, xor_lt, xor_shr, xor_zero_r}
+use Rattle.std.proofs.Common.{◌≡◌, ℕ, suc, ◌+◌, ◌-◌, ◌*◌, ◌/◌, ◌%◌, ◌^◌, ◌<◌, ◌≤◌, true, not, eqb, leb, ◌≢◌, List, [], ◌∷◌, length, sym, refl, ap, ◌∙◌, subst, add-zero, mod-eq_of_lt, one-mul, pow-suc, mul-zero, zero-mul, one-add, arith, pow_pos}
+use lib.Bits.{bit_xor, xor_lt, xor_zero_r}
 use lib.Pow.{pow-lt, field, high, low, mod-mod-pow}
 use Rattle.std.proofs.lemmas.Bool.{and_parts, leb-true, eqb-false, not-true}
 use Rattle.quadratic.specs.Bits.{bit}

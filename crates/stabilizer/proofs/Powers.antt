@@ -1,8 +1,8 @@
 -- Scalars with their powers lowered.
-use Rattle.std.proofs.Common.{◌≡◌, ℕ, zero, suc, ◌%◌, ◌<◌, ◌≤◌, ℤ, pos, ◌+ℤ◌, ◌-ℤ◌, neg_ℤ, sym, refl, ap, ◌∙◌, ap₂, mod-eq_of_lt, arith, w64, to_z, of_z}
+use Rattle.std.proofs.Common.{◌≡◌, ℕ, zero, suc, ◌≤◌, ℤ, pos, ◌+ℤ◌, ◌-ℤ◌, neg_ℤ, refl, ap, ap₂, mod-eq_of_lt, arith, w64, to_z, of_z}
 use borrow.Author.Differences.{ints}
 use lib.Count.{ones-le}
-use Rattle.cyclotomic.specs.Scalars.{Triple, triple_of, nought, unit}
+use Rattle.cyclotomic.specs.Scalars.{Triple, triple_of, unit}
 use Rattle.cyclotomic.specs.declared.scalar.Scalar.{Scalar}
 use Rattle.quadratic.specs.Sums.{Bounded}
 use Rattle.quadratic.specs.declared.intersection.Intersection.{Intersection}

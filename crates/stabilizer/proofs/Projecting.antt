@@ -1,5 +1,5 @@
 -- The four ways of a projection: the operator's factor at each string, and what it adds up to.
-use Rattle.std.proofs.Common.{◌≡◌, ℕ, zero, suc, ◌+◌, ◌*◌, ◌%◌, ◌^◌, ◌<◌, Bool, true, false, cond, eqb, ◌⊎◌, Some, None, Option, sym, refl, ap, ◌∙◌, subst, ap₂, inl, inr, zero-add, arith}
+use Rattle.std.proofs.Common.{◌≡◌, ℕ, ◌+◌, ◌*◌, ◌%◌, ◌^◌, ◌<◌, Bool, true, false, ◌⊎◌, Some, None, Option, sym, ap, ◌∙◌, ap₂, inl, inr, zero-add, arith}
 use native.Mathlib.Decide.{ℕ_discrete}
 use lib.Bits.{bit_xor}
 use lib.Count.{ones}
@@ -10,13 +10,12 @@ use Rattle.cyclotomic.specs.Ring.{CommLaws, two, wpow, root, rpow}
 use Rattle.cyclotomic.proofs.Ints.{omega-laws}
 use Rattle.cyclotomic.proofs.RingFacts
 use Rattle.quadratic.specs.Bits.{dot}
-use Rattle.quadratic.specs.Moves.{turn, Kept, Outside, Along, Extended, Grown}
+use Rattle.quadratic.specs.Moves.{turn, Kept, Outside, Along, Grown}
 use Rattle.quadratic.specs.Phase.{phase}
 use Rattle.quadratic.specs.Strings.{Member}
 use Rattle.quadratic.specs.declared.affine.Outcome.{Outcome}
 use Rattle.quadratic.specs.declared.affine.Outcome.TheVariants.{Unchanged, Empty, Restricted}
 use Rattle.quadratic.specs.declared.phased.PhasedSpace.{PhasedSpace}
-use Rattle.quadratic.proofs.Bitlaws.{digit}
 use Rattle.quadratic.proofs.Dots.{dot-lt}
 use Rattle.quadratic.proofs.Laws.{shift_in}
 use Rattle.quadratic.proofs.Linear.{back}

@@ -1,14 +1,13 @@
 -- States with the same amplitudes have the same weight and the same phases.
-use Rattle.std.proofs.Common.{◌≡◌, ℕ, ◌+◌, ◌%◌, ◌<◌, ℤ, pos, neg_ℤ, Some, None, Option, sym, refl, ap, ◌∙◌, ap₂, mod-eq_of_lt, arith}
+use Rattle.std.proofs.Common.{◌≡◌, ℕ, ◌+◌, ◌%◌, ◌<◌, pos, neg_ℤ, Some, None, Option, sym, refl, ap, ◌∙◌, ap₂, mod-eq_of_lt, arith}
 use borrow.Author.Differences.{ints}
 use lib.Count.{ones}
-use Rattle.cyclotomic.specs.Scalars.{Triple}
 use Rattle.quadratic.specs.Phase.{phase, SamePhases}
 use Rattle.quadratic.proofs.Distinct.{pivots-same}
 use Rattle.quadratic.proofs.Extent.{phase-lt, shift-phase}
 use Rattle.quadratic.proofs.Same.{same-strings}
 use Rattle.stabilizer.specs.Overlaps.{depth}
-use Rattle.stabilizer.specs.States.{amplitude, amplitudeOf, SameState}
+use Rattle.stabilizer.specs.States.{amplitudeOf, SameState}
 use Rattle.stabilizer.specs.declared.state.StabilizerState.{StabilizerState}
 
 negatives : (a b : ℕ) → neg_ℤ (pos a) ≡ neg_ℤ (pos b) → a ≡ b

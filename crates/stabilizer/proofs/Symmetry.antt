@@ -1,5 +1,5 @@
 -- Exchanging two states conjugates their overlap.
-use Rattle.std.proofs.Common.{◌≡◌, ℕ, ◌+◌, ◌-◌, ◌%◌, ◌^◌, ◌<◌, sym, refl, ap, ◌∙◌, ap₂, inl, inr, arith}
+use Rattle.std.proofs.Common.{◌≡◌, ℕ, ◌+◌, ◌-◌, ◌%◌, ◌^◌, sym, ap, ◌∙◌, inl, inr, arith}
 use Rattle.cyclotomic.specs.Adjoin.{Omega, omegas, ints, conj}
 use Rattle.cyclotomic.specs.Exact.{mirrored}
 use Rattle.cyclotomic.specs.Scalars.{Triple, Kind}

@@ -1,5 +1,5 @@
 -- The gates: their numbers, the qubits that each takes, and their matrices.
-use Rattle.std.specs.Prelude.{ℕ, ◌+◌, ◌-◌, ◌*◌, ◌%◌, ◌^◌, Bool, true, false, cond, not, ◌&&◌, Some, None, Option, ◌==◌, bit_xor, nat_le}
+use Rattle.std.specs.Prelude.{ℕ, ◌-◌, ◌*◌, ◌^◌, Bool, cond, not, ◌&&◌, Some, None, Option, ◌==◌, bit_xor, nat_le}
 use Rattle.quadratic.specs.Bits.{bit}
 use Rattle.stabilizer.specs.declared.gate.Gate.{Gate}
 use Rattle.stabilizer.specs.declared.gate.Gate.TheVariants.{X, Z, S, SDagger, CNot, CZ}

@@ -1,5 +1,5 @@
 -- Paulis by masks, as a text is read.
-use Rattle.std.specs.Prelude.{◌≡◌, ℕ, ◌+◌, ◌*◌, ◌%◌, ◌^◌, ◌<◌, ◌≤◌, List, [], ◌∷◌, length, Some, None, Ok, Err, Option, Result}
+use Rattle.std.specs.Prelude.{◌≡◌, ℕ, ◌+◌, ◌*◌, ◌%◌, ◌^◌, ◌<◌, ◌≤◌, List, length, Some, None, Ok, Err, Option, Result}
 use Rattle.cyclotomic.specs.Refusals.{number_of}
 use Rattle.cyclotomic.specs.declared.refusal.Refusal.{Refusal}
 use Rattle.quadratic.specs.Bits.{dot}

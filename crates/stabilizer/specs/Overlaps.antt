@@ -1,5 +1,5 @@
 -- What two states of one size have in common.
-use Rattle.std.specs.Prelude.{◌≡◌, ℕ, zero, suc, ◌+◌, ◌≤◌, cond, ℤ, pos, ◌+ℤ◌, neg_ℤ, Some, None, Ok, Err, Option, Result, ◌==◌, count_ones}
+use Rattle.std.specs.Prelude.{◌≡◌, ℕ, zero, suc, ◌+◌, ◌≤◌, cond, ℤ, pos, ◌+ℤ◌, neg_ℤ, None, Ok, Err, Option, Result, ◌==◌, count_ones}
 use Rattle.cyclotomic.specs.Adjoin.{omegas}
 use Rattle.cyclotomic.specs.Exact.{scaled, mirrored}
 use Rattle.cyclotomic.specs.Scalars.{Triple, triple_of, nought, Kind, embedded}

@@ -1,5 +1,5 @@
 -- What the calls on a state answer.
-use Rattle.std.specs.Prelude.{◌≡◌, ℕ, ◌+◌, ◌^◌, ◌<◌, ◌≤◌, cond, ◌&&◌, ◌||◌, ℤ, pos, neg_ℤ, Some, None, Ok, Err, Option, Result, count_ones, nat_le, nat_lt}
+use Rattle.std.specs.Prelude.{◌≡◌, ℕ, ◌+◌, ◌^◌, ◌<◌, ◌≤◌, cond, ◌&&◌, pos, neg_ℤ, Some, None, Ok, Err, Option, Result, count_ones, nat_le, nat_lt}
 use Rattle.cyclotomic.specs.Scalars.{Triple, triple_of, nought, unit}
 use Rattle.cyclotomic.specs.declared.refusal.Refusal.{Refusal}
 use Rattle.cyclotomic.specs.declared.scalar.Scalar.{Scalar}

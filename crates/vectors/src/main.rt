@@ -1,5 +1,7 @@
 // Lists many archives: each line of standard input has the bytes of one as pairs of hexadecimal digits, `-` for none. Its listing goes to
 // standard output, with an empty line after it.
+#![tactic(auto)]
+
 use listing::hex::Hex;
 use listing::sheets::write_listing;
 use std::io;

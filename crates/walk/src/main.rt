@@ -1,5 +1,7 @@
 // Divides a sample circuit between two states at every place, and prints what each division comes to: the same scalar on every line, as
 // the mark behind it says.
+#![tactic(auto)]
+
 use circuit::call::Call;
 use circuit::division::{SplitValue, split};
 use cyclotomic::scalar::Scalar;
@@ -68,7 +70,7 @@ fn push_gate(calls: &mut Vec<Call>, kind: u64, first: u64, second: u64) -> anyho
 }
 
 fn push_projection(calls: &mut Vec<Call>, text: &[u8]) -> anyhow::Result<()> {
-    let mut bytes = Vec::new(calls.allocator());
+    let mut bytes = Vec::new(*calls.allocator());
     bytes.extend_from_slice(text)?;
     calls.push(Call::Project(bytes))?;
     Ok(())

@@ -1,5 +1,5 @@
 -- Sums of forms of at most two variables, term by term, in any ring.
-use Rattle.std.proofs.Common.{◌≡◌, ℕ, suc, ◌+◌, ◌%◌, ◌^◌, ◌+ℤ◌, Some, None, Option, sym, refl, ap, ◌∙◌, ap₂, arith}
+use Rattle.std.proofs.Common.{◌≡◌, ℕ, suc, ◌+◌, ◌%◌, ◌^◌, Some, None, Option, sym, refl, ap, ◌∙◌, ap₂, arith}
 use lib.IntN.{+ℤ_idl}
 use Rattle.cyclotomic.specs.Adjoin.{omegas}
 use Rattle.cyclotomic.specs.Exact.{scaled, Floor}

@@ -5,7 +5,6 @@ use Rattle.cyclotomic.specs.Adjoin.{Omega, omegas}
 use Rattle.cyclotomic.specs.CommFacts
 use Rattle.cyclotomic.specs.Ring.{wpow, root, rpow, exact}
 use Rattle.cyclotomic.proofs.Ints.{omega-laws}
-use Rattle.cyclotomic.proofs.RingFacts
 use Rattle.cyclotomic.proofs.Scalars.{exact-not-nil}
 use Rattle.quadratic.specs.Phase.{phase}
 use Rattle.quadratic.proofs.Extent.{shift-phase, phases-below}

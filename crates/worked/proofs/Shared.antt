@@ -1,5 +1,5 @@
 -- What two states of one qubit have in common, from their bytes to their overlap.
-use Rattle.std.proofs.Common.{◌≡◌, ℕ, ◌+◌, ◌-◌, ◌%◌, ◌<◌, ℤ, pos, negsuc, ◌+ℤ◌, Some, sym, refl, ap, ◌∙◌, ap₂, inr, arith}
+use Rattle.std.proofs.Common.{◌≡◌, ℕ, ◌+◌, ◌-◌, ◌%◌, ◌<◌, ℤ, pos, negsuc, Some, sym, refl, ap, ◌∙◌, ap₂, inr, arith}
 use native.Mathlib.Decide.{dec_lt}
 use lib.IntN.{+ℤ_idl}
 use Rattle.cyclotomic.specs.Adjoin.{omegas}

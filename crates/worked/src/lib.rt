@@ -1,3 +1,5 @@
+#![tactic(auto)]
+
 ghost use Rattle.cyclotomic.specs.Scalars.{triple_of};
 ghost use Rattle.worked.specs.Worked.{WorkedExamples};
 

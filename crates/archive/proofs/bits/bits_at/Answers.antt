@@ -10,16 +10,16 @@ turn b p w s v x h ev ex = rw (ev, ex) (sym (bits-step b p w s h (omega arith)))
 pub loop-done-init : goal.loop-done-init
 loop-done-init c = (omega arith, sym (bits_none _ _))
 
-pub overflow-mul-value : goal.overflow-mul-value
-overflow-mul-value c = omega (
+pub overflow_mul-value : goal.overflow_mul-value
+overflow_mul-value c = omega (
   arith,
   turn c.args.bytes.now c.args.at c.loop-done.done c.min-step.result c.loop-done.value
       c.from.result (omega arith) c.loop-done.invariant.1 c.from.ensures,
   step_fits c.args.bytes.now c.args.at c.loop-done.done c.min-step.result (omega arith),
 )
 
-pub overflow-add-value : goal.overflow-add-value
-overflow-add-value c = omega (
+pub overflow_add-value : goal.overflow_add-value
+overflow_add-value c = omega (
   arith,
   turn c.args.bytes.now c.args.at c.loop-done.done c.min-step.result c.loop-done.value
       c.from.result (omega arith) c.loop-done.invariant.1 c.from.ensures,

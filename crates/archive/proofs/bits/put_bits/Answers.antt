@@ -25,8 +25,8 @@ loop-j-init c = (
 
 pub loop-j-preserved : goal.loop-j-preserved
 loop-j-preserved c =
-    let same = c.put-bit.ensures.others in
+    let same = c.put_bit.ensures.others in
     let inv = c.loop-j.invariant in (
-      one_more _ _ _ _ _ _ c.loop-j-test.true inv.0 c.put-bit.ensures.there same,
+      one_more _ _ _ _ _ _ c.loop-j-test.true inv.0 c.put_bit.ensures.there same,
       (λ q l. same q (omega arith) ∙ inv.1.0 q l, λ q l. same q (omega arith) ∙ inv.1.1 q (omega arith)),
     )

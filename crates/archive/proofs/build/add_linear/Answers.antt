@@ -4,5 +4,5 @@ use Rattle.archive.proofs.build.add_linear.Goals as goal
 
 pub returns : goal.returns
 returns c =
-    linear-grown c.args.body.now c.add-linear.new.self _ _
-    (linear-granted c.add-linear.result _ _ _ _ c.requires.0 (omega arith) c.add-linear.ensures)
+    linear-grown c.args.body.now c.add_linear.new.self _ _
+    (linear-granted c.add_linear.result _ _ _ _ c.requires.0 (omega arith) c.add_linear.ensures)

@@ -13,33 +13,33 @@ use Rattle.archive.proofs.build.build_coupling_row.Goals as goal
 shifted : (p n k a c first : ℕ) → first ≡ couplingPlace p n k a (suc a) → a < c → first + (c - a - 1) ≡ couplingPlace p n k a c
 shifted p n k a c first e l = let z : suc a - suc a ≡ 0 = omega arith in omega arith
 
-pub overflow-add-first : goal.overflow-add-first
-overflow-add-first c =
+pub overflow_add-first : goal.overflow_add-first
+overflow_add-first c =
     let a = c.args.a in
     let i = c.loop-c.c in
     let h = couplings-there _ _ _ _ c.requires.sound a i (omega arith) c.loop-c-test.true in
     omega (
       arith,
-      shifted c.args.start c.args.n c.args.k a i _ c.coupling-place-first.ensures (omega arith),
+      shifted c.args.start c.args.n c.args.k a i _ c.coupling_place-first.ensures (omega arith),
       h.1,
       c.requires.near,
     )
 
-pub bits-at-requires : goal.bits-at-requires
-bits-at-requires c =
+pub bits_at-requires : goal.bits_at-requires
+bits_at-requires c =
     let a = c.args.a in
     let i = c.loop-c.c in
     let h = couplings-there _ _ _ _ c.requires.sound a i (omega arith) c.loop-c-test.true in
-    let e = shifted c.args.start c.args.n c.args.k a i _ c.coupling-place-first.ensures (omega arith) in
+    let e = shifted c.args.start c.args.n c.args.k a i _ c.coupling_place-first.ensures (omega arith) in
     (omega (arith, e, h.0), (omega arith, omega (arith, e, h.1, c.requires.near)))
 
-pub add-coupling-requires : goal.add-coupling-requires
-add-coupling-requires c =
+pub add_coupling-requires : goal.add_coupling-requires
+add_coupling-requires c =
     let a = c.args.a in
     let i = c.loop-c.c in
     let t = c.requires.listed.listed in
     let pivots = ap (λ s. s.pivots) c.loop-c.invariant.same.space in
-    let low = bits_below c.args.bytes.now (c.coupling-place-first.result + (i - a - 1)) 1 in (
+    let low = bits_below c.args.bytes.now (c.coupling_place-first.result + (i - a - 1)) 1 in (
       ap₂ bit pivots (t a c.requires.row) ∙ c.requires.pivots a c.requires.row,
       (
         ap₂ bit pivots (t i c.loop-c-test.true) ∙ c.requires.pivots i c.loop-c-test.true,
@@ -50,7 +50,7 @@ add-coupling-requires c =
             t i c.loop-c-test.true,
             order _ _ _ _ c.requires.sound i c.loop-c-test.true a (omega arith),
           ),
-          omega (arith, c.bits-at.ensures),
+          omega (arith, c.bits_at.ensures),
         ),
       ),
     )
@@ -61,10 +61,10 @@ loop-c-preserved c =
     let i = c.loop-c.c in
     let b = c.args.bytes.now in
     let t = c.requires.listed.listed in
-    let e = shifted c.args.start c.args.n c.args.k a i _ c.coupling-place-first.ensures (omega arith) in
-    let low = bits_below b (c.coupling-place-first.result + (i - a - 1)) 1 in
+    let e = shifted c.args.start c.args.n c.args.k a i _ c.coupling_place-first.ensures (omega arith) in
+    let low = bits_below b (c.coupling_place-first.result + (i - a - 1)) 1 in
     row_more _ _ _ _ c.requires.sound a i (omega arith) c.loop-c-test.true _ _ _ _ _ _ (t a c.requires.row) (t i c.loop-c-test.true)
-    (omega (arith, c.bits-at.ensures)) (c.bits-at.ensures ∙ ap (λ q. bitsAt b q 1) e) c.loop-c.invariant c.add-coupling.ensures
+    (omega (arith, c.bits_at.ensures)) (c.bits_at.ensures ∙ ap (λ q. bitsAt b q 1) e) c.loop-c.invariant c.add_coupling.ensures
 
 pub returns : goal.returns
 returns c =

@@ -1,11 +1,11 @@
-use Rattle.std.proofs.Common.{◌-◌, refl, ap, ◌∙◌, arith}
+use Rattle.std.proofs.Common.{refl, ap, ◌∙◌, arith}
 use Rattle.quadratic.specs.Bits.{bit}
 use Rattle.archive.specs.Layout.{lead, row_at}
 use Rattle.archive.proofs.Weighing.{rows_more}
 use Rattle.archive.proofs.build.build_couplings.Goals as goal
 
-pub build-coupling-row-requires : goal.build-coupling-row-requires
-build-coupling-row-requires c =
+pub build_coupling_row-requires : goal.build_coupling_row-requires
+build_coupling_row-requires c =
     let w = c.loop-a.invariant in
     record {
       near = c.requires.near;
@@ -24,4 +24,4 @@ build-coupling-row-requires c =
 
 pub loop-a-preserved : goal.loop-a-preserved
 loop-a-preserved c = rows_more _ _ _ _ c.requires.sound c.loop-a.a c.loop-a-test.true _ _ _ c.loop-a.invariant
-    c.build-coupling-row.ensures
+    c.build_coupling_row.ensures

@@ -19,25 +19,25 @@ loop-a-init c =
       refl,
     )
 
-pub overflow-mul-a : goal.overflow-mul-a
-overflow-mul-a c = omega (arith, (rows-there _ _ _ _ c.requires.sound c.loop-a.a c.loop-a-test.true).1)
+pub overflow_mul-a : goal.overflow_mul-a
+overflow_mul-a c = omega (arith, (rows-there _ _ _ _ c.requires.sound c.loop-a.a c.loop-a-test.true).1)
 
-pub overflow-add-start-in-loop-a : goal.overflow-add-start-in-loop-a
-overflow-add-start-in-loop-a c = omega (arith, (rows-there _ _ _ _ c.requires.sound c.loop-a.a c.loop-a-test.true).1)
+pub overflow_add-start-in-loop-a : goal.overflow_add-start-in-loop-a
+overflow_add-start-in-loop-a c = omega (arith, (rows-there _ _ _ _ c.requires.sound c.loop-a.a c.loop-a-test.true).1)
 
-pub bits-at-row-requires : goal.bits-at-row-requires
-bits-at-row-requires c =
+pub bits_at-row-requires : goal.bits_at-row-requires
+bits_at-row-requires c =
     let good = c.requires.sound in
     let h = rows-there _ _ _ _ good c.loop-a.a c.loop-a-test.true in
     (h.0, (omega (arith, good.few), omega (arith, h.1)))
 
 pub unreachable-requires : goal.unreachable-requires
 unreachable-requires c =
-    granted _ _ _ _ c.requires.sound c.loop-a.a c.loop-a-test.true _ c.loop-a.invariant.0 _ c.append-row.new.self
-    c.bits-at-row.ensures c.in-default.ensures
+    granted _ _ _ _ c.requires.sound c.loop-a.a c.loop-a-test.true _ c.loop-a.invariant.0 _ c.append_row.new.self
+    c.bits_at-row.ensures c.in_default.ensures
 
-pub offset-bounds-leads-a : goal.offset-bounds-leads-a
-offset-bounds-leads-a c = let good = c.requires.sound in omega (arith, good.few, good.fewer)
+pub offset_bounds-leads-a : goal.offset_bounds-leads-a
+offset_bounds-leads-a c = let good = c.requires.sound in omega (arith, good.few, good.fewer)
 
 pub bounds-leads-a : goal.bounds-leads-a
 bounds-leads-a c = let good = c.requires.sound in omega (arith, good.few, good.fewer)
@@ -46,9 +46,9 @@ pub loop-a-preserved : goal.loop-a-preserved
 loop-a-preserved c =
     let good = c.requires.sound in
     let h = c.in-Some.ensures in (
-      raised _ _ _ _ good c.loop-a.a c.loop-a-test.true _ c.loop-a.invariant.0 _ _ _ c.bits-at-row.ensures h,
-      listed_more _ _ _ _ good c.loop-a.a c.loop-a-test.true _ c.loop-a.invariant.0 _ _ c.append-row.new.self
-          c.bits-at-row.ensures h
+      raised _ _ _ _ good c.loop-a.a c.loop-a-test.true _ c.loop-a.invariant.0 _ _ _ c.bits_at-row.ensures h,
+      listed_more _ _ _ _ good c.loop-a.a c.loop-a-test.true _ c.loop-a.invariant.0 _ _ c.append_row.new.self
+          c.bits_at-row.ensures h
           (omega (arith, good.few, good.fewer)) _ c.loop-a.invariant.1,
       h.1 ∙ c.loop-a.invariant.2,
     )

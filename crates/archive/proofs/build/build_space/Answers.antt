@@ -5,11 +5,11 @@ use Rattle.archive.proofs.build.build_space.Goals as goal
 pub returns : goal.returns
 returns c =
     let good = c.requires.sound in
-    let w = c.build-rows-leads.ensures.raised in
-    let g = reshifted _ _ _ _ good _ w c.set-shift.result c.set-shift.new.self _ c.bits-at.ensures c.set-shift.ensures in
+    let w = c.build_rows-leads.ensures.raised in
+    let g = reshifted _ _ _ _ good _ w c.set_shift.result c.set_shift.new.self _ c.bits_at.ensures c.set_shift.ensures in
     record {
-      spans = shift-spans _ _ _ _ good _ w c.set-shift.new.self g;
-      pivots = shift-pivots _ _ _ _ good _ w c.set-shift.new.self g;
-      listed = c.build-rows-leads.ensures.listed;
-      same = g.1 ∙ c.build-rows-leads.ensures.same;
+      spans = shift-spans _ _ _ _ good _ w c.set_shift.new.self g;
+      pivots = shift-pivots _ _ _ _ good _ w c.set_shift.new.self g;
+      listed = c.build_rows-leads.ensures.listed;
+      same = g.1 ∙ c.build_rows-leads.ensures.same;
     }

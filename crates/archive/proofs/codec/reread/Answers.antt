@@ -1,4 +1,4 @@
-use Rattle.std.proofs.Common.{◌-◌, take, subst}
+use Rattle.std.proofs.Common.{take, subst}
 use native.Mathlib.Nat.{sub-zero}
 use Rattle.archive.specs.Held.{Holds}
 use Rattle.archive.proofs.Alone.{alone-end}

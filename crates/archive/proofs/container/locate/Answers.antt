@@ -7,43 +7,43 @@ use Rattle.archive.proofs.States.{first-place, whole-bytes, place-rises, state-g
 use Rattle.archive.proofs.Denials.{by-fault, by_number, by-none, states-good}
 use Rattle.archive.proofs.container.locate.Goals as goal
 
-pub returns-in-err-count : goal.returns-in-err-count
-returns-in-err-count c =
-    let p = err_from_is_err_and c.from-residual.result c.from-residual.ensures.1 in
-    rw (p.1, p.2) (by-fault c.args.archive.now c.args.i _ c.in-err-count.ensures)
+pub returns-in_err-count : goal.returns-in_err-count
+returns-in_err-count c =
+    let p = err_from_is_err_and c.from_residual.result c.from_residual.ensures.1 in
+    rw (p.1, p.2) (by-fault c.args.archive.now c.args.i _ c.in_err-count.ensures)
 
 pub returns-then-i-lt1 : goal.returns-then-i-lt1
 returns-then-i-lt1 c =
-    let h = c.in-ok-count.ensures in
+    let h = c.in_ok-count.ensures in
     by_number c.args.archive.now c.args.i h.0 (rw (sym h.1) (grind (arith, nat_tests, c.then-i-lt1.either)))
 
 pub skip-requires : goal.skip-requires
 skip-requires c =
-    let h = c.in-ok-count.ensures in
+    let h = c.in_ok-count.ensures in
     (sym (first-place c.args.archive.now), (omega arith, (omega (arith, h.2), omega (arith, h.3))))
 
-pub returns-in-err-from : goal.returns-in-err-from
-returns-in-err-from c =
-    let h = c.in-ok-count.ensures in
+pub returns-in_err-from : goal.returns-in_err-from
+returns-in_err-from c =
+    let h = c.in_ok-count.ensures in
     let good = states-good c.args.archive.now 0 (c.args.i - 1) h.3 (omega (arith, h.1, h.2)) h.0 (omega (arith, h.1)) in
-    absurd (none-some _ (sym good ∙ c.in-err-from.ensures))
+    absurd (none-some _ (sym good ∙ c.in_err-from.ensures))
 
-pub returns-in-err-to : goal.returns-in-err-to
-returns-in-err-to c =
-    let h = c.in-ok-count.ensures in
+pub returns-in_err-to : goal.returns-in_err-to
+returns-in_err-to c =
+    let h = c.in_ok-count.ensures in
     let good = states-good c.args.archive.now (c.args.i - 1) 1 h.3 (omega (arith, h.1, h.2)) h.0 (omega (arith, h.1)) in
-    absurd (none-some _ (sym good ∙ c.in-err-to.ensures))
+    absurd (none-some _ (sym good ∙ c.in_err-to.ensures))
 
 pub returns : goal.returns
 returns c =
     let b = c.args.archive.now in
     let i = c.args.i in
-    let h = c.in-ok-count.ensures in
-    let u = c.in-ok-from.ensures in
-    let v = c.in-ok-to.ensures in
-    let from : c.in-ok-from.from ≡ placeAfter b (i - 1) = u.1 ∙ ap (placeAfter b) (zero-add (i - 1)) in
+    let h = c.in_ok-count.ensures in
+    let u = c.in_ok-from.ensures in
+    let v = c.in_ok-to.ensures in
+    let from : c.in_ok-from.from ≡ placeAfter b (i - 1) = u.1 ∙ ap (placeAfter b) (zero-add (i - 1)) in
     let one : i - 1 + 1 ≡ i = omega arith in
-    let to : c.in-ok-to.to ≡ placeAfter b i = v.1 ∙ ap (placeAfter b) one in
+    let to : c.in_ok-to.to ≡ placeAfter b i = v.1 ∙ ap (placeAfter b) one in
     let w = whole-bytes b (i - 1) in
     let z = whole-bytes b i in
     let rise = place-rises b i in (

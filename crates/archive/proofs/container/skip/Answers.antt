@@ -19,8 +19,8 @@ loop-i-init c =
       ap₂ (statesFault b) (sym (add-zero c.args.done)) (sym (sub-zero c.args.m)),
     )
 
-pub state-end-requires : goal.state-end-requires
-state-end-requires c = omega (arith, c.loop-i.invariant.1)
+pub state_end-requires : goal.state_end-requires
+state_end-requires c = omega (arith, c.loop-i.invariant.1)
 
 pub returns-in-Err : goal.returns-in-Err
 returns-in-Err c =

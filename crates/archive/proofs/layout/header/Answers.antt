@@ -17,46 +17,46 @@ module _ (b : List ℕ) (p n : ℕ) (en : n ≡ size_at b p) (one : firstFault b
     weighed : firstFault b (p + 12) (weight ∷ []) ≡ None → firstFault b p (header (size_at b p)) ≡ firstFault b (p + 25) (phase ∷ [])
     weighed three = rooted ∙ passes b (p + 12) (weight ∷ []) _ three (p + 25) (omega arith)
 
-pub returns-in-err-n : goal.returns-in-err-n
-returns-in-err-n c =
-    let p = err_from_is_err_and c.from-residual.result c.from-residual.ensures.1 in
-    rw (p.1, p.2) (stops c.args.bytes.now _ (qubits ∷ []) (dimension _ ∷ weight ∷ phase ∷ []) _ c.in-err-n.ensures)
+pub returns-in_err-n : goal.returns-in_err-n
+returns-in_err-n c =
+    let p = err_from_is_err_and c.from_residual.result c.from_residual.ensures.1 in
+    rw (p.1, p.2) (stops c.args.bytes.now _ (qubits ∷ []) (dimension _ ∷ weight ∷ phase ∷ []) _ c.in_err-n.ensures)
 
-pub returns-in-err-k : goal.returns-in-err-k
-returns-in-err-k c =
+pub returns-in_err-k : goal.returns-in_err-k
+returns-in_err-k c =
     let b = c.args.bytes.now in
-    let size = c.in-ok-n.ensures in
-    let p = err_from_is_err_and c.from-residual-in-err-k.result c.from-residual-in-err-k.ensures.1 in
-    rw (p.1, p.2) (sized b c.args.start c.in-ok-n.n size.1 size.0
-    ∙ stops b _ (dimension _ ∷ []) (weight ∷ phase ∷ []) _ c.in-err-k.ensures)
+    let size = c.in_ok-n.ensures in
+    let p = err_from_is_err_and c.from_residual-in_err-k.result c.from_residual-in_err-k.ensures.1 in
+    rw (p.1, p.2) (sized b c.args.start c.in_ok-n.n size.1 size.0
+    ∙ stops b _ (dimension _ ∷ []) (weight ∷ phase ∷ []) _ c.in_err-k.ensures)
 
-pub returns-in-err-number-in : goal.returns-in-err-number-in
-returns-in-err-number-in c =
+pub returns-in_err-number_in : goal.returns-in_err-number_in
+returns-in_err-number_in c =
     let b = c.args.bytes.now in
-    let size = c.in-ok-n.ensures in
-    let rank = c.in-ok-k.ensures in
-    let p = err_from_is_err_and c.from-residual-in-err-number-in.result c.from-residual-in-err-number-in.ensures.1 in
-    rw (p.1, p.2) (rooted b c.args.start c.in-ok-n.n size.1 size.0 rank.0
-    ∙ stops b _ (weight ∷ []) (phase ∷ []) _ c.in-err-number-in.ensures)
+    let size = c.in_ok-n.ensures in
+    let rank = c.in_ok-k.ensures in
+    let p = err_from_is_err_and c.from_residual-in_err-number_in.result c.from_residual-in_err-number_in.ensures.1 in
+    rw (p.1, p.2) (rooted b c.args.start c.in_ok-n.n size.1 size.0 rank.0
+    ∙ stops b _ (weight ∷ []) (phase ∷ []) _ c.in_err-number_in.ensures)
 
-pub returns-in-err-demand : goal.returns-in-err-demand
-returns-in-err-demand c =
+pub returns-in_err-demand : goal.returns-in_err-demand
+returns-in_err-demand c =
     let b = c.args.bytes.now in
-    let size = c.in-ok-n.ensures in
-    let rank = c.in-ok-k.ensures in
-    let h = c.in-err-demand.ensures in
-    let p = err_from_is_err_and c.from-residual-in-err-demand.result c.from-residual-in-err-demand.ensures.1 in
-    rw (p.1, p.2) (weighed b c.args.start c.in-ok-n.n size.1 size.0 rank.0
-    c.in-ok-number-in.ensures.0 ∙ cut b _ phase [] h.0 ∙ ap (λ f. Some (Bits f)) (sym h.1))
+    let size = c.in_ok-n.ensures in
+    let rank = c.in_ok-k.ensures in
+    let h = c.in_err-demand.ensures in
+    let p = err_from_is_err_and c.from_residual-in_err-demand.result c.from_residual-in_err-demand.ensures.1 in
+    rw (p.1, p.2) (weighed b c.args.start c.in_ok-n.n size.1 size.0 rank.0
+    c.in_ok-number_in.ensures.0 ∙ cut b _ phase [] h.0 ∙ ap (λ f. Some (Bits f)) (sym h.1))
 
 pub returns : goal.returns
 returns c =
     let b = c.args.bytes.now in
-    let size = c.in-ok-n.ensures in
-    let rank = c.in-ok-k.ensures in (
+    let size = c.in_ok-n.ensures in
+    let rank = c.in_ok-k.ensures in (
       ap (λ m. firstFault b c.args.start (header m)) size.1
-          ∙ weighed b c.args.start c.in-ok-n.n size.1 size.0 rank.0 c.in-ok-number-in.ensures.0
-          ∙ fine b (c.args.start + 25) phase [] _ refl c.in-ok-demand.ensures refl ∙ fault-none b _,
+          ∙ weighed b c.args.start c.in_ok-n.n size.1 size.0 rank.0 c.in_ok-number_in.ensures.0
+          ∙ fine b (c.args.start + 25) phase [] _ refl c.in_ok-demand.ensures refl ∙ fault-none b _,
       size.1,
       rank.1,
       size.3,

@@ -32,29 +32,29 @@ loop-a-init c = record {
 near : (a n p : ℕ) → a ≤ 48 → n ≤ 48 → p ≤ 2 ^ 31 → p + 28 + a * n ≤ 2 ^ 32
 near a n p h g f = omega (arith, mul-le a n 48 48 h g)
 
-pub number-at-requires : goal.number-at-requires
-number-at-requires c = (
+pub number_at-requires : goal.number_at-requires
+number_at-requires c = (
   omega arith,
   rw c.loop-a.invariant.stands (near c.loop-a.a c.args.n c.args.start (omega arith) (omega arith) (omega arith)),
 )
 
-pub returns-in-err-row : goal.returns-in-err-row
-returns-in-err-row c =
-    let h = c.in-err-row.ensures in
-    let p = err_from_is_err_and c.from-residual.result c.from-residual.ensures.1 in
+pub returns-in_err-row : goal.returns-in_err-row
+returns-in_err-row c =
+    let h = c.in_err-row.ensures in
+    let p = err_from_is_err_and c.from_residual.result c.from_residual.ensures.1 in
     rw (p.1, p.2) (next_row _ _ _ _ _ _ _ _ _ c.loop-a-test.true c.loop-a.invariant
     ∙ cut c.args.bytes.now _ (row _ _ _ _) _ h.0 ∙ ap (λ f. Some (Bits f)) (sym h.1))
 
-pub returns-in-default : goal.returns-in-default
-returns-in-default c =
-    let h = c.in-ok-row.ensures in
+pub returns-in_default : goal.returns-in_default
+returns-in_default c =
+    let h = c.in_ok-row.ensures in
     row-broken _ _ _ _ _ _ _ _ _ c.loop-a-test.true c.loop-a.invariant _ h.1 h.0
-    (refused (Good c.loop-a.above c.loop-a.seen c.in-ok-row.row) _ c.in-default.ensures)
+    (refused (Good c.loop-a.above c.loop-a.seen c.in_ok-row.row) _ c.in_default.ensures)
 
 pub loop-a-preserved : goal.loop-a-preserved
 loop-a-preserved c =
-    let h = c.in-ok-row.ensures in
-    let v = c.in-ok-row.row in
+    let h = c.in_ok-row.ensures in
+    let v = c.in_ok-row.row in
     let g = granted (Good c.loop-a.above c.loop-a.seen v) (lead v) c.in-Some.pivot c.in-Some.ensures in
     let low : lead v < 64 = omega arith in
     rw (g.1, one_shl (lead v) 64 low) (row_more _ _ _ _ _ _ _ _ _ c.loop-a-test.true c.loop-a.invariant v h.1 h.0 g.0)

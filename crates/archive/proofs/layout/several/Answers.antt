@@ -26,15 +26,15 @@ loop-i-init c = (
 pub demand-requires : goal.demand-requires
 demand-requires c = (omega arith, omega (arith, near c.loop-i.i c.args.width (omega arith) (omega arith)))
 
-pub overflow-add-at : goal.overflow-add-at
-overflow-add-at c = omega (arith, near c.loop-i.i c.args.width (omega arith) (omega arith))
+pub overflow_add-at : goal.overflow_add-at
+overflow_add-at c = omega (arith, near c.loop-i.i c.args.width (omega arith) (omega arith))
 
-pub returns-in-err-demand : goal.returns-in-err-demand
-returns-in-err-demand c =
+pub returns-in_err-demand : goal.returns-in_err-demand
+returns-in_err-demand c =
     let b = c.args.bytes.now in
     let x = free c.args.field c.args.width in
-    let h = c.in-err-demand.ensures in
-    let p = err_from_is_err_and c.from-residual.result c.from-residual.ensures.1 in
+    let h = c.in_err-demand.ensures in
+    let p = err_from_is_err_and c.from_residual.result c.from_residual.ensures.1 in
     rw (p.1, p.2) (c.loop-i.invariant.1 ∙ ap (firstFault b c.loop-i.at)
     (copies-more c.loop-i.i c.args.count x c.loop-i-test.true) ∙ cut b _ x _ h.0 ∙ ap (λ f. Some (Bits f)) (sym h.1))
 
@@ -47,7 +47,7 @@ loop-i-preserved c =
       omega (arith, c.loop-i.invariant.0),
       c.loop-i.invariant.1
           ∙ ap (firstFault b c.loop-i.at) (copies-more c.loop-i.i c.args.count x c.loop-i-test.true)
-          ∙ fine b _ x _ _ refl c.in-ok-demand.ensures refl,
+          ∙ fine b _ x _ _ refl c.in_ok-demand.ensures refl,
     )
 
 pub returns : goal.returns

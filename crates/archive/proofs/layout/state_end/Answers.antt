@@ -11,60 +11,60 @@ moved : (b : List ℕ) (k t m q : ℕ) → t ≡ q → m ≡ k - 1
     → firstFault b q (copies (pairs k) coupling) ≡ firstFault b t (copies (k * m / 2) coupling)
 moved b k t m q et em = ap₂ (λ i j. firstFault b i (copies (k * j / 2) coupling)) (sym et) (sym em)
 
-pub returns-in-err-n : goal.returns-in-err-n
+pub returns-in_err-n : goal.returns-in_err-n
 unfolding stateFault parts_at
-returns-in-err-n c =
-    let p = err_from_is_err_and c.from-residual.result c.from-residual.ensures.1 in
-    rw (p.1, p.2) (stops c.args.bytes.now _ (header _) _ _ c.in-err-n.ensures)
+returns-in_err-n c =
+    let p = err_from_is_err_and c.from_residual.result c.from_residual.ensures.1 in
+    rw (p.1, p.2) (stops c.args.bytes.now _ (header _) _ _ c.in_err-n.ensures)
 
-pub returns-in-err-leads : goal.returns-in-err-leads
-returns-in-err-leads c =
+pub returns-in_err-leads : goal.returns-in_err-leads
+returns-in_err-leads c =
     let b = c.args.bytes.now in
-    let h = c.in-ok-n.ensures in
-    let p = err_from_is_err_and c.from-residual-in-err-leads.result c.from-residual-in-err-leads.ensures.1 in
-    rw (p.1, p.2) (after-header b _ _ _ h.1 h.2 h.0 ∙ stops b _ (rows _ _ _ _ _) _ _ c.in-err-leads.ensures)
+    let h = c.in_ok-n.ensures in
+    let p = err_from_is_err_and c.from_residual-in_err-leads.result c.from_residual-in_err-leads.ensures.1 in
+    rw (p.1, p.2) (after-header b _ _ _ h.1 h.2 h.0 ∙ stops b _ (rows _ _ _ _ _) _ _ c.in_err-leads.ensures)
 
-pub returns-in-err-shift-fits : goal.returns-in-err-shift-fits
-returns-in-err-shift-fits c =
+pub returns-in_err-shift_fits : goal.returns-in_err-shift_fits
+returns-in_err-shift_fits c =
     let b = c.args.bytes.now in
-    let h = c.in-ok-n.ensures in
-    let p = err_from_is_err_and c.from-residual-in-err-shift-fits.result c.from-residual-in-err-shift-fits.ensures.1 in
-    rw (p.1, p.2) (after-all-rows b _ _ _ h.1 h.2 h.0 c.in-ok-leads.ensures.0
-    ∙ stops b _ (shift _ _ _ _ ∷ []) _ _ c.in-err-shift-fits.ensures)
+    let h = c.in_ok-n.ensures in
+    let p = err_from_is_err_and c.from_residual-in_err-shift_fits.result c.from_residual-in_err-shift_fits.ensures.1 in
+    rw (p.1, p.2) (after-all-rows b _ _ _ h.1 h.2 h.0 c.in_ok-leads.ensures.0
+    ∙ stops b _ (shift _ _ _ _ ∷ []) _ _ c.in_err-shift_fits.ensures)
 
 pub several-requires : goal.several-requires
 several-requires c =
-    let h = c.in-ok-n.ensures in
-    (omega arith, (omega arith, omega (arith, few c.in-ok-n.k c.in-ok-n.n h.4 h.3)))
+    let h = c.in_ok-n.ensures in
+    (omega arith, (omega arith, omega (arith, few c.in_ok-n.k c.in_ok-n.n h.4 h.3)))
 
-pub returns-in-err-couplings : goal.returns-in-err-couplings
-returns-in-err-couplings c =
+pub returns-in_err-couplings : goal.returns-in_err-couplings
+returns-in_err-couplings c =
     let b = c.args.bytes.now in
-    let h = c.in-ok-n.ensures in
-    let p = err_from_is_err_and c.from-residual-in-err-couplings.result c.from-residual-in-err-couplings.ensures.1 in
-    rw (p.1, p.2) (after-shift b _ _ _ h.1 h.2 h.0 c.in-ok-leads.ensures.0 c.in-ok-shift-fits.ensures
-    ∙ stops b _ (copies _ linear) _ _ c.in-err-couplings.ensures)
+    let h = c.in_ok-n.ensures in
+    let p = err_from_is_err_and c.from_residual-in_err-couplings.result c.from_residual-in_err-couplings.ensures.1 in
+    rw (p.1, p.2) (after-shift b _ _ _ h.1 h.2 h.0 c.in_ok-leads.ensures.0 c.in_ok-shift_fits.ensures
+    ∙ stops b _ (copies _ linear) _ _ c.in_err-couplings.ensures)
 
 pub several-requires-2 : goal.several-requires-2
 several-requires-2 c =
-    let h = c.in-ok-n.ensures in
-    let e = c.in-ok-couplings.ensures.1 in (
+    let h = c.in_ok-n.ensures in
+    let e = c.in_ok-couplings.ensures.1 in (
       omega arith,
       (
-        omega (arith, few-pairs c.in-ok-n.k _ (omega arith) c.saturating-sub.ensures),
-        omega (arith, few c.in-ok-n.k c.in-ok-n.n h.4 h.3),
+        omega (arith, few-pairs c.in_ok-n.k _ (omega arith) c.saturating_sub.ensures),
+        omega (arith, few c.in_ok-n.k c.in_ok-n.n h.4 h.3),
       ),
     )
 
-pub returns-in-err-end : goal.returns-in-err-end
-returns-in-err-end c =
+pub returns-in_err-end : goal.returns-in_err-end
+returns-in_err-end c =
     let b = c.args.bytes.now in
-    let h = c.in-ok-n.ensures in
-    let l = c.in-ok-couplings.ensures in
-    let p = err_from_is_err_and c.from-residual-in-err-end.result c.from-residual-in-err-end.ensures.1 in
-    rw (p.1, p.2) (after-linear b _ _ _ h.1 h.2 h.0 c.in-ok-leads.ensures.0
-    c.in-ok-shift-fits.ensures l.0
-    ∙ stops b _ (copies _ coupling) _ _ (moved b _ _ _ _ l.1 c.saturating-sub.ensures ∙ c.in-err-end.ensures))
+    let h = c.in_ok-n.ensures in
+    let l = c.in_ok-couplings.ensures in
+    let p = err_from_is_err_and c.from_residual-in_err-end.result c.from_residual-in_err-end.ensures.1 in
+    rw (p.1, p.2) (after-linear b _ _ _ h.1 h.2 h.0 c.in_ok-leads.ensures.0
+    c.in_ok-shift_fits.ensures l.0
+    ∙ stops b _ (copies _ coupling) _ _ (moved b _ _ _ _ l.1 c.saturating_sub.ensures ∙ c.in_err-end.ensures))
 
 -- the place where the fill begins
 module _ (b : List ℕ) (p n k : ℕ) (en : n ≡ size_at b p) (ek : k ≡ rank_at b p) (h : firstFault b p (header n) ≡ None)
@@ -77,34 +77,34 @@ module _ (b : List ℕ) (p n k : ℕ) (en : n ≡ size_at b p) (ek : k ≡ rank_
   before-fill : stateFault b p ≡ firstFault b q (fill q ∷ [])
   before-fill = after-coupling b p n k en ek h r s l (moved b k t m _ et em ∙ z) ∙ ap (λ i. firstFault b i (fill i ∷ [])) (sym at_fill)
 
-pub returns-in-err-number-in : goal.returns-in-err-number-in
-returns-in-err-number-in c =
-    let h = c.in-ok-n.ensures in
-    let l = c.in-ok-couplings.ensures in
-    let e = c.in-ok-end.ensures in
-    let p = err_from_is_err_and c.from-residual-in-err-number-in.result c.from-residual-in-err-number-in.ensures.1 in
-    rw (p.1, p.2) (before-fill c.args.bytes.now _ _ _ h.1 h.2 h.0 c.in-ok-leads.ensures.0
-    c.in-ok-shift-fits.ensures l.0 _ _ _ l.1 c.saturating-sub.ensures e.0 e.1
-    ∙ c.in-err-number-in.ensures)
+pub returns-in_err-number_in : goal.returns-in_err-number_in
+returns-in_err-number_in c =
+    let h = c.in_ok-n.ensures in
+    let l = c.in_ok-couplings.ensures in
+    let e = c.in_ok-end.ensures in
+    let p = err_from_is_err_and c.from_residual-in_err-number_in.result c.from_residual-in_err-number_in.ensures.1 in
+    rw (p.1, p.2) (before-fill c.args.bytes.now _ _ _ h.1 h.2 h.0 c.in_ok-leads.ensures.0
+    c.in_ok-shift_fits.ensures l.0 _ _ _ l.1 c.saturating_sub.ensures e.0 e.1
+    ∙ c.in_err-number_in.ensures)
 
 pub returns : goal.returns
 returns c =
     let b = c.args.bytes.now in
-    let h = c.in-ok-n.ensures in
-    let l = c.in-ok-couplings.ensures in
-    let e = c.in-ok-end.ensures in
-    let sum = at_fill b _ _ _ h.1 h.2 h.0 c.in-ok-leads.ensures.0 c.in-ok-shift-fits.ensures
-    l.0 _ _ _ l.1 c.saturating-sub.ensures e.0 e.1 in (
-      before-fill b _ _ _ h.1 h.2 h.0 c.in-ok-leads.ensures.0 c.in-ok-shift-fits.ensures l.0 _ _ _
-          l.1 c.saturating-sub.ensures e.0 e.1
-          ∙ c.in-ok-number-in.ensures.0,
+    let h = c.in_ok-n.ensures in
+    let l = c.in_ok-couplings.ensures in
+    let e = c.in_ok-end.ensures in
+    let sum = at_fill b _ _ _ h.1 h.2 h.0 c.in_ok-leads.ensures.0 c.in_ok-shift_fits.ensures
+    l.0 _ _ _ l.1 c.saturating_sub.ensures e.0 e.1 in (
+      before-fill b _ _ _ h.1 h.2 h.0 c.in_ok-leads.ensures.0 c.in_ok-shift_fits.ensures l.0 _ _ _
+          l.1 c.saturating_sub.ensures e.0 e.1
+          ∙ c.in_ok-number_in.ensures.0,
       ap padded sum ∙ sym (end_is b _ _ _ h.1 h.2),
       omega (
         arith,
-        few c.in-ok-n.k c.in-ok-n.n h.4 h.3,
-        few-pairs c.in-ok-n.k _ (omega arith) c.saturating-sub.ensures,
+        few c.in_ok-n.k c.in_ok-n.n h.4 h.3,
+        few-pairs c.in_ok-n.k _ (omega arith) c.saturating_sub.ensures,
         l.1,
         e.1,
       ),
-      c.in-ok-number-in.ensures.4,
+      c.in_ok-number_in.ensures.4,
     )

@@ -19,7 +19,7 @@ one_more b i (r ∷ ss) s t h =
 
 pub loop-i-init : goal.loop-i-init
 loop-i-init c =
-    let h = c.in-ok-count.ensures in
+    let h = c.in_ok-count.ensures in
     let none = c.new-states.ensures.items in (
       sym (first-place c.args.archive.now),
       omega arith,
@@ -29,26 +29,26 @@ loop-i-init c =
       subst (InTurn c.args.archive.now 0) (sym none) tt,
     )
 
-pub returns-in-err-end : goal.returns-in-err-end
-returns-in-err-end c =
-    let h = c.in-ok-count.ensures in
+pub returns-in_err-end : goal.returns-in_err-end
+returns-in_err-end c =
+    let h = c.in_ok-count.ensures in
     let good = states-good c.args.archive.now c.loop-i.i 1 h.3 (omega (arith, h.1, h.2)) h.0 (omega (arith, h.1)) in
-    absurd (none-some _ (sym good ∙ c.in-err-end.ensures))
+    absurd (none-some _ (sym good ∙ c.in_err-end.ensures))
 
 pub build-requires : goal.build-requires
 build-requires c =
-    let h = c.in-ok-count.ensures in (
+    let h = c.in_ok-count.ensures in (
       omega (arith, c.loop-i.invariant.1, h.2),
       ap (stateFault c.args.archive.now) c.loop-i.invariant.0
-          ∙ state-good _ _ c.in-ok-end.ensures.0,
+          ∙ state-good _ _ c.in_ok-end.ensures.0,
     )
 
 pub loop-i-preserved : goal.loop-i-preserved
 loop-i-preserved c =
     let b = c.args.archive.now in
     let i = c.loop-i.i in
-    let u = c.in-ok-end.ensures in
-    let p = c.in-ok-push.ensures in
+    let u = c.in_ok-end.ensures in
+    let p = c.in_ok-push.ensures in
     let ss = vec_items c.loop-i.states in
     let here : c.loop-i.at ≡ placeAfter b (0 + length ss) = c.loop-i.invariant.0
     ∙ ap (placeAfter b) (sym (zero-add (length ss) ∙ c.loop-i.invariant.4)) in (

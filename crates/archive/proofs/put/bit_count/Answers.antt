@@ -5,7 +5,7 @@ use Rattle.archive.proofs.put.bit_count.Goals as goal
 pub returns : goal.returns
 returns c =
     let k = c.args.k in
-    let e = ap (λ s. k * s / 2) c.saturating-sub.ensures in
+    let e = ap (λ s. k * s / 2) c.saturating_sub.ensures in
     let f = few k c.args.n (omega arith) (omega arith) in
-    let g = few-pairs k c.saturating-sub.result (omega arith) c.saturating-sub.ensures in
+    let g = few-pairs k c.saturating_sub.result (omega arith) c.saturating_sub.ensures in
     (omega arith, (omega arith, omega arith))

@@ -14,8 +14,8 @@ loop-a-preserved c =
     let a = c.loop-a.a in
     let s = c.args.body.now in
     let leads = c.args.leads.now in (
-      table_more (λ j v. (2 * v ≡ linearAt s (get_or leads j 0)) × (v < 4)) c.loop-a.values a (c.linear-at.result / 2)
+      table_more (λ j v. (2 * v ≡ linearAt s (get_or leads j 0)) × (v < 4)) c.loop-a.values a (c.linear_at.result / 2)
           (omega (arith, c.loop-a.invariant.1))
-          c.loop-a.invariant.0 (halved s (get_or leads a 0) c.linear-at.result c.linear-at.ensures),
-      length-set c.loop-a.values a (c.linear-at.result / 2) ∙ c.loop-a.invariant.1,
+          c.loop-a.invariant.0 (halved s (get_or leads a 0) c.linear_at.result c.linear_at.ensures),
+      length-set c.loop-a.values a (c.linear_at.result / 2) ∙ c.loop-a.invariant.1,
     )

@@ -15,8 +15,8 @@ loop-c-preserved c =
     let s = c.args.body.now in
     let leads = c.args.leads.now in
     let p = get_or leads c.args.a 0 in (
-      table_more (λ j v. (v ≡ link s.form.coupling p (get_or leads j 0)) × (v < 2)) c.loop-c.values i (c.coupling-at.result / 4)
+      table_more (λ j v. (v ≡ link s.form.coupling p (get_or leads j 0)) × (v < 2)) c.loop-c.values i (c.coupling_at.result / 4)
           (omega (arith, c.loop-c.invariant.1))
-          c.loop-c.invariant.0 (quartered s p (get_or leads i 0) c.coupling-at.result c.coupling-at.ensures),
-      length-set c.loop-c.values i (c.coupling-at.result / 4) ∙ c.loop-c.invariant.1,
+          c.loop-c.invariant.0 (quartered s p (get_or leads i 0) c.coupling_at.result c.coupling_at.ensures),
+      length-set c.loop-c.values i (c.coupling_at.result / 4) ∙ c.loop-c.invariant.1,
     )

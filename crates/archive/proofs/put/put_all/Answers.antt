@@ -12,22 +12,22 @@ inside p f j t w h l g e = (field-within p (j - f) (t - f) w (omega arith), mul-
 pub loop-j-init : goal.loop-j-init
 loop-j-init c = (λ i h l. absurd (omega arith), (λ q l. refl, λ q l. refl))
 
-pub overflow-mul-j : goal.overflow-mul-j
-overflow-mul-j c = omega (
+pub overflow_mul-j : goal.overflow_mul-j
+overflow_mul-j c = omega (
   arith,
   (inside c.args.at c.args.from c.loop-j.j c.args.to c.args.width c.loop-j.auto.j
       c.loop-j-test.true (omega arith) (omega arith)).1,
 )
 
-pub overflow-add-at : goal.overflow-add-at
-overflow-add-at c = omega (
+pub overflow_add-at : goal.overflow_add-at
+overflow_add-at c = omega (
   arith,
   (inside c.args.at c.args.from c.loop-j.j c.args.to c.args.width c.loop-j.auto.j
       c.loop-j-test.true (omega arith) (omega arith)).1,
 )
 
-pub put-bits-requires : goal.put-bits-requires
-put-bits-requires c =
+pub put_bits-requires : goal.put_bits-requires
+put_bits-requires c =
     let h = inside c.args.at c.args.from c.loop-j.j c.args.to c.args.width c.loop-j.auto.j
     c.loop-j-test.true (omega arith) (omega arith) in
     (omega (arith, h.0), (omega arith, (omega (arith, h.1), c.requires.low c.loop-j.j c.loop-j.auto.j c.loop-j-test.true)))
@@ -38,12 +38,12 @@ loop-j-preserved c =
     let w = c.args.width in
     let f = c.args.from in
     let j = c.loop-j.j in
-    let new = c.put-bits.new.bytes in
-    let put = c.put-bits.ensures.framed in
+    let new = c.put_bits.new.bytes in
+    let put = c.put_bits.ensures.framed in
     let one : j + 1 - f ≡ j - f + 1 = omega (arith, c.loop-j.auto.j) in
     let e : p + (j + 1 - f) * w ≡ p + (j - f) * w + w = ap (λ t. p + t * w) one ∙ next_place p (j - f) w in (
       λ i h l. elim (cases_eq i j) [
-        | inl here ↦ ap (λ t. bitsAt new (p + (t - f) * w) w) here ∙ c.put-bits.ensures.there
+        | inl here ↦ ap (λ t. bitsAt new (p + (t - f) * w) w) here ∙ c.put_bits.ensures.there
             ∙ ap (λ t. get_or c.args.values.now t 0) (sym here)
         | inr there ↦
             keep-before c.loop-j.buffer new (p + (j - f) * w) (p + (j - f) * w + w) (p + (i - f) * w) w put

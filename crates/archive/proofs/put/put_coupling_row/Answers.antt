@@ -15,19 +15,19 @@ last n k a first e =
     let y : suc (suc a) - suc (suc a) ≡ 0 = omega arith in
     let m = mul-one (k - (a + 1)) in omega arith
 
-pub put-all-requires : goal.put-all-requires
-put-all-requires c =
+pub put_all-requires : goal.put_all-requires
+put_all-requires c =
     let n = c.args.n in
     let k = c.args.k in
     let a = c.args.a in
-    let e = last n k a _ c.coupling-place.ensures in
+    let e = last n k a _ c.coupling_place.ensures in
     let y : suc (suc a) - suc (suc a) ≡ 0 = omega arith in
     let s = pairs-split k (suc a) (omega arith) in
     let f = few k n (omega arith) (omega arith) in
     let g = few-pairs k (k - 1) (omega arith) refl in
     record {
-      near = (omega arith, (omega arith, (omega (arith, c.coupling-place.ensures), (omega arith, omega arith))));
-      low = λ j h l. (c.links-of-links.ensures.0 j l).1;
+      near = (omega arith, (omega arith, (omega (arith, c.coupling_place.ensures), (omega arith, omega arith))));
+      low = λ j h l. (c.links_of-links.ensures.0 j l).1;
     }
 
 pub returns : goal.returns
@@ -35,12 +35,12 @@ returns c =
     let n = c.args.n in
     let k = c.args.k in
     let a = c.args.a in
-    let d = c.put-all.new.buffer in
-    let e = c.coupling-place.ensures in
+    let d = c.put_all.new.buffer in
+    let e = c.coupling_place.ensures in
     record {
       there = λ j h l.
-          ap (λ q. bitsAt d q 1) (sym (shifted n k a j _ e h)) ∙ c.put-all.ensures.there j (omega arith) l
-          ∙ (c.links-of-links.ensures.0 j l).0;
+          ap (λ q. bitsAt d q 1) (sym (shifted n k a j _ e h)) ∙ c.put_all.ensures.there j (omega arith) l
+          ∙ (c.links_of-links.ensures.0 j l).0;
       framed = subst (λ t. Framed c.args.buffer.now d (couplingPlace 0 n k a (suc a)) t) (last n k a _ e)
-          (subst (λ t. Framed c.args.buffer.now d t (c.coupling-place.result + (k - (a + 1)) * 1)) e c.put-all.ensures.framed);
+          (subst (λ t. Framed c.args.buffer.now d t (c.coupling_place.result + (k - (a + 1)) * 1)) e c.put_all.ensures.framed);
     }

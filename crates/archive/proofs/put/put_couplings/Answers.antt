@@ -27,14 +27,14 @@ loop-a-preserved c =
     let n = c.args.n in
     let k = c.args.k in
     let a = c.loop-a.a in
-    let d = c.put-coupling-row.new.buffer in
-    let f = c.put-coupling-row.ensures.framed in
+    let d = c.put_coupling_row.new.buffer in
+    let f = c.put_coupling_row.ensures.framed in
     let from = couplingPlace 0 n k a (suc a) in
     let to = couplingPlace 0 n k (suc a) (suc (suc a)) in
     let rise : from ≤ to = let z : suc a - suc a ≡ 0 = omega arith in omega arith in (
       λ i j l h m. elim (cases_eq i a) [
         | inl e ↦
-            ap (λ t. bitsAt d (couplingPlace 0 n k t j) 1) e ∙ c.put-coupling-row.ensures.there j (omega arith) m
+            ap (λ t. bitsAt d (couplingPlace 0 n k t j) 1) e ∙ c.put_coupling_row.ensures.there j (omega arith) m
             ∙ ap (λ t. link c.args.body.now.form.coupling (get_or c.args.leads.now t 0) (get_or c.args.leads.now j 0)) (sym e)
         | inr ne ↦ keep-before c.loop-a.buffer d from to (couplingPlace 0 n k i j) 1 f (earlier n k i j a h m (omega arith))
             ∙ c.loop-a.invariant.0 i j (omega arith) h m

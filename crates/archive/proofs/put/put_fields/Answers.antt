@@ -14,37 +14,37 @@ returns c =
     let leads = c.args.leads.now in
     let t = c.args.body.now in
     let b₀ = c.args.buffer.now in
-    let b₁ = c.put-header.new.buffer in
-    let b₂ = c.put-rows.new.buffer in
-    let b₃ = c.put-linear.new.buffer in
-    let b₄ = c.put-couplings.new.buffer in
-    let f₂ = c.put-rows.ensures.framed in
-    let f₃ = c.put-linear.ensures.framed in
-    let f₄ = c.put-couplings.ensures.framed in
-    let head = subst (HeaderPut b₁ n k c.args.loss) c.phase.ensures c.put-header.ensures.put in
+    let b₁ = c.put_header.new.buffer in
+    let b₂ = c.put_rows.new.buffer in
+    let b₃ = c.put_linear.new.buffer in
+    let b₄ = c.put_couplings.new.buffer in
+    let f₂ = c.put_rows.ensures.framed in
+    let f₃ = c.put_linear.ensures.framed in
+    let f₄ = c.put_couplings.ensures.framed in
+    let head = subst (HeaderPut b₁ n k c.args.loss) c.phase.ensures c.put_header.ensures.put in
     let z = zero-mul 2 in
     let i₂ : 28 ≤ linearPlace 0 n k 0 = omega arith in
     let i₃ : linearPlace 0 n k 0 ≤ linearPlace 0 n k k = omega arith in
     let i₄ : linearPlace 0 n k k ≤ bitCount n k = omega arith in
     let row-end : linearPlace 0 n k 0 ≡ 28 + k * n + n = omega arith in
     let f₂' = subst (Framed b₁ b₂ 28) (sym row-end) f₂ in
-    let e = c.bit-count-end.ensures.0 in
-    let b₅ = c.put-bits.new.bytes in
+    let e = c.bit_count-end.ensures.0 in
+    let b₅ = c.put_bits.new.bytes in
     let f₅ : Framed b₄ b₅ (bitCount n k) (padded (bitCount n k)) = subst (λ q. Framed b₄ b₅ q (padded q)) e
-    c.put-bits.ensures.framed in
+    c.put_bits.ensures.framed in
     record {
       header = header-kept b₄ b₅ _ f₅.0 n k (omega arith) _ _ (header-kept b₃ b₄ _ f₄.0 n k (omega arith) _ _
           (header-kept b₂ b₃ _ f₃.0 n k (omega arith) _ _ (header-kept b₁ b₂ 28 f₂.0 n k (omega arith) _ _ head)));
       rows = rows-kept b₄ b₅ _ f₅.0 n k leads t (omega arith)
           (rows-kept b₃ b₄ _ f₄.0 n k leads t (omega arith)
-          (rows-kept b₂ b₃ _ f₃.0 n k leads t (omega arith) c.put-rows.ensures.put));
+          (rows-kept b₂ b₃ _ f₃.0 n k leads t (omega arith) c.put_rows.ensures.put));
       form = form-kept b₄ b₅ _ f₅.0 n k leads t (omega arith) (record {
-        linear = linear-kept b₃ b₄ _ f₄.0 n k leads t (omega arith) c.put-linear.ensures.there;
-        coupling = c.put-couplings.ensures.there;
+        linear = linear-kept b₃ b₄ _ f₄.0 n k leads t (omega arith) c.put_linear.ensures.there;
+        coupling = c.put_couplings.ensures.there;
       });
-      fill = subst (λ q. bitsAt b₅ q (padding q) ≡ 0) e c.put-bits.ensures.there;
+      fill = subst (λ q. bitsAt b₅ q (padding q) ≡ 0) e c.put_bits.ensures.there;
       framed = both b₀ b₄ b₅ 0 (bitCount n k) (padded (bitCount n k)) (omega arith) (omega arith)
           (both b₀ b₃ b₄ 0 (linearPlace 0 n k k) (bitCount n k) (omega arith) i₄
           (both b₀ b₂ b₃ 0 (linearPlace 0 n k 0) (linearPlace 0 n k k) (omega arith) i₃
-          (both b₀ b₁ b₂ 0 28 (linearPlace 0 n k 0) (omega arith) i₂ c.put-header.ensures.framed f₂') f₃) f₄) f₅;
+          (both b₀ b₁ b₂ 0 28 (linearPlace 0 n k 0) (omega arith) i₂ c.put_header.ensures.framed f₂') f₃) f₄) f₅;
     }

@@ -5,21 +5,21 @@ use Rattle.archive.proofs.put.put_header.Goals as goal
 pub returns : goal.returns
 returns c =
     let b₀ = c.args.buffer.now in
-    let b₁ = c.put-bits.new.bytes in
-    let b₂ = c.put-bits-2.new.bytes in
-    let b₃ = c.put-bits-3.new.bytes in
-    let b₄ = c.put-bits-4.new.bytes in
-    let f₁ = c.put-bits.ensures.framed in
-    let f₂ = c.put-bits-2.ensures.framed in
-    let f₃ = c.put-bits-3.ensures.framed in
-    let f₄ = c.put-bits-4.ensures.framed in
+    let b₁ = c.put_bits.new.bytes in
+    let b₂ = c.put_bits-2.new.bytes in
+    let b₃ = c.put_bits-3.new.bytes in
+    let b₄ = c.put_bits-4.new.bytes in
+    let f₁ = c.put_bits.ensures.framed in
+    let f₂ = c.put_bits-2.ensures.framed in
+    let f₃ = c.put_bits-3.ensures.framed in
+    let f₄ = c.put_bits-4.ensures.framed in
     record {
       put = record {
         size = keep-before b₃ b₄ 25 28 0 6 f₄ (omega arith) ∙ keep-before b₂ b₃ 12 25 0 6 f₃ (omega arith)
-            ∙ keep-before b₁ b₂ 6 12 0 6 f₂ (omega arith) ∙ c.put-bits.ensures.there;
-        rank = keep-before b₃ b₄ 25 28 6 6 f₄ (omega arith) ∙ keep-before b₂ b₃ 12 25 6 6 f₃ (omega arith) ∙ c.put-bits-2.ensures.there;
-        weight = keep-before b₃ b₄ 25 28 12 13 f₄ (omega arith) ∙ c.put-bits-3.ensures.there;
-        phased = c.put-bits-4.ensures.there;
+            ∙ keep-before b₁ b₂ 6 12 0 6 f₂ (omega arith) ∙ c.put_bits.ensures.there;
+        rank = keep-before b₃ b₄ 25 28 6 6 f₄ (omega arith) ∙ keep-before b₂ b₃ 12 25 6 6 f₃ (omega arith) ∙ c.put_bits-2.ensures.there;
+        weight = keep-before b₃ b₄ 25 28 12 13 f₄ (omega arith) ∙ c.put_bits-3.ensures.there;
+        phased = c.put_bits-4.ensures.there;
       };
       framed = both b₀ b₃ b₄ 0 25 28 (omega arith) (omega arith)
           (both b₀ b₂ b₃ 0 12 25 (omega arith) (omega arith) (both b₀ b₁ b₂ 0 6 12 (omega arith) (omega arith) f₁ f₂) f₃) f₄;

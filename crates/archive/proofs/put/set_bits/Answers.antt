@@ -1,4 +1,4 @@
-use Rattle.std.proofs.Common.{◌-◌, ◌^◌, refl, ap, ◌∙◌, arith}
+use Rattle.std.proofs.Common.{◌^◌, refl, ap, ◌∙◌, arith}
 use native.Mathlib.Nat.{div-eq_of_lt}
 use lib.Count.{ones}
 use Rattle.quadratic.specs.Bits.{bit}

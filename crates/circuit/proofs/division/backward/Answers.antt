@@ -19,10 +19,10 @@ loop-i-preserved c =
     let h : i < length xs = omega arith in
     let e : c.loop-i.i ≡ i + 1 = omega arith in (
       omega arith,
-      subst (λ cs. Ran cs s c.with-met.result c.make-inverse.new.state)
+      subst (λ cs. Ran cs s c.with-met.result c.make_inverse.new.state)
           (back_more xs i c.index-calls-i.result h c.index-calls-i.is)
-          (walked_more _ (inverse (call_of c.index-calls-i.result)) s c.loop-i.state c.make-inverse.new.state c.loop-i.met
+          (walked_more _ (inverse (call_of c.index-calls-i.result)) s c.loop-i.state c.make_inverse.new.state c.loop-i.met
           c.with-met.result _
           (subst (λ k. Ran (backwards (map call_of (drop k xs))) s c.loop-i.met c.loop-i.state) e c.loop-i.invariant.1)
-          c.make-inverse.ensures c.with-met.ensures.impossible c.with-met.ensures.exhausted),
+          c.make_inverse.ensures c.with-met.ensures.impossible c.with-met.ensures.exhausted),
     )

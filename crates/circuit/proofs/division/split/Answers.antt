@@ -1,4 +1,4 @@
-use Rattle.std.proofs.Common.{◌≡◌, cond, eqb, Err, sym, refl, ap, ◌∙◌, subst, ap₂}
+use Rattle.std.proofs.Common.{◌≡◌, cond, eqb, Err, sym, ap, ◌∙◌, subst, ap₂}
 use Rattle.std.proofs.lemmas.List.{take_rest}
 use Rattle.std.proofs.lemmas.Result.{err_from_is_err_and}
 use Rattle.std.proofs.lemmas.Bool.{eq-eqb, cond-true}
@@ -44,12 +44,12 @@ returns-then-met-2 c =
           c.zero.ensures);
     }
 
-pub returns-in-err-overlap : goal.returns-in-err-overlap
-returns-in-err-overlap c =
-    let p = err_from_is_err_and c.from-residual.result c.from-residual.ensures.1 in
+pub returns-in_err-overlap : goal.returns-in_err-overlap
+returns-in_err-overlap c =
+    let p = err_from_is_err_and c.from_residual.result c.from_residual.ensures.1 in
     let e = p.1 ∙ ap (λ r. Err r) p.2 in
     record {
-      number = ap answer_of e ∙ c.in-err-overlap.ensures.number
+      number = ap answer_of e ∙ c.in_err-overlap.ensures.number
           ∙ ap₂ (λ a b. cond (eqb a b) 0 23) (run-qubits c.backward-second.ensures.run) (run-qubits c.forward-first.ensures.run);
       value = rw e tt;
     }
@@ -60,7 +60,7 @@ returns c =
     let t = c.args.t.now in
     let s' = c.forward-first.new.state in
     let t' = c.backward-second.new.state in
-    let x = triple_of c.in-ok-overlap.field-0 in
+    let x = triple_of c.in_ok-overlap.field-0 in
     let q : t.qubits ≡ s.qubits = sym c.qubits.ensures ∙ c.if-qubits.false ∙ c.qubits-2.ensures in
     record {
       number = one_size t s q;
@@ -69,5 +69,5 @@ returns c =
           s t s' t' c.forward-first.result c.backward-second.result
           c.or-met.result c.forward-first.ensures (rw take_rest at c.backward-second.ensures) c.or-met.ensures.impossible
           c.or-met.ensures.exhausted x q c.if-met.false
-          (subst (λ b. Worth b t' s' x) (sym c.if-met-2.false) c.in-ok-overlap.ensures.value.is);
+          (subst (λ b. Worth b t' s' x) (sym c.if-met-2.false) c.in_ok-overlap.ensures.value.is);
     }

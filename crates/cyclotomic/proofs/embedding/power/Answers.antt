@@ -1,4 +1,4 @@
-use Rattle.std.proofs.Common.{◌≡◌, ◌/◌, sym, ap, ◌∙◌, ap₂, arith}
+use Rattle.std.proofs.Common.{◌≡◌, ◌/◌, sym, ap, ◌∙◌, arith}
 use Rattle.cyclotomic.specs.Ring.{power}
 use Rattle.cyclotomic.specs.CommFacts.{one-times}
 use Rattle.cyclotomic.proofs.Powers.{even_step, odd_step}

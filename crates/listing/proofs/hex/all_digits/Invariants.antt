@@ -1,4 +1,4 @@
-use Rattle.std.proofs.Common.{◌≡◌, ℕ, ◌<◌, true, length, get_or, is_some}
+use Rattle.std.proofs.Common.{◌≡◌, ℕ, ◌<◌, true, get_or, is_some}
 use Rattle.listing.specs.Digits.{nibbleOf}
 use Rattle.listing.proofs.hex.all_digits.Given as goal
 

@@ -3,14 +3,14 @@ use Rattle.listing.proofs.pair.compare.Goals as goal
 
 pub returns : goal.returns
 returns c =
-    let o = c.in-ok-overlap.ensures in
+    let o = c.in_ok-overlap.ensures in
     record {
       number = o.number;
       value = record {
         overlap = o.value;
-        both = c.overlap-into.new.out;
+        both = c.overlap_into.new.out;
         shared = o.granted refl;
-        columns = c.columns-of.ensures;
+        columns = c.columns_of.ensures;
         sound = c.same.ensures.sound;
         complete = c.same.ensures.complete;
       };

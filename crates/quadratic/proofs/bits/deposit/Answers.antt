@@ -17,8 +17,8 @@ room sum p x l s h =
 shifted : (b p : ℕ) → b < 2 → p < 48 → (b * 2 ^ p) % 2 ^ 64 ≡ b * 2 ^ p
 shifted b p s l = shl_whole b 1 p 64 s (omega arith)
 
-pub overflow-add-sum : goal.overflow-add-sum
-overflow-add-sum c =
+pub overflow_add-sum : goal.overflow_add-sum
+overflow_add-sum c =
     let p = c.loop-p.p in
     let x = c.loop-p.left % 2 in
     let r = room c.loop-p.sum p x c.loop-p-test.true (omega arith) c.loop-p.invariant.1 in

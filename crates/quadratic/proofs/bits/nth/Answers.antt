@@ -1,4 +1,4 @@
-use Rattle.std.proofs.Common.{◌≡◌, ℕ, suc, ◌-◌, sym, ap, ◌∙◌, arith}
+use Rattle.std.proofs.Common.{◌≡◌, suc, ◌-◌, sym, ap, ◌∙◌, arith}
 use Rattle.quadratic.specs.Bits.{bit}
 use Rattle.quadratic.specs.Numbering.{place}
 use Rattle.quadratic.proofs.Numbering.{place_here, place-passed, place-off}
@@ -20,7 +20,7 @@ loop-p-preserved-then-bit-eq1 c =
     let a = c.loop-p.left in
     let e : p ≡ suc (p - 1) = omega arith in
     let on : bit mask (p - 1) ≡ 1 = sym c.bit.ensures.0 ∙ c.if-bit-eq1.true in
-    let less : a - 1 ≡ c.saturating-sub-left.result = omega arith in (
+    let less : a - 1 ≡ c.saturating_sub-left.result = omega arith in (
       c.loop-p.invariant.0 ∙ ap (λ n. place n mask a) e ∙ place-passed (p - 1) mask a on c.if-left-eq1.false ∙ ap (place (p - 1) mask) less,
       omega arith,
     )

@@ -18,8 +18,8 @@ clear-bit f w a e d =
     let p = ap (λ n. 2 ^ n) (add-one a) ∙ pow-suc 2 a in
     (omega (arith, p), below_more _ a d.1 (bit_past a w a d.0 (omega arith) ∙ sym e))
 
-pub overflow-add-l : goal.overflow-add-l
-overflow-add-l c =
+pub overflow_add-l : goal.overflow_add-l
+overflow_add-l c =
     let a = c.loop-p.p in
     let i : a < 48 = omega arith in
     let in64 : a < 64 = omega arith in

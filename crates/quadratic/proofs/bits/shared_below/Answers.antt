@@ -1,5 +1,5 @@
-use Rattle.std.proofs.Common.{◌≡◌, ℕ, ◌-◌, ◌*◌, ◌%◌, ◌^◌, ◌≤◌, ap, ◌∙◌, mod-lt, arith, pow_pos}
-use lib.Bits.{bit_and, and_mask, mask_lt}
+use Rattle.std.proofs.Common.{◌≡◌, ◌-◌, ◌*◌, ◌%◌, ◌^◌, ◌≤◌, ap, ◌∙◌, mod-lt, arith, pow_pos}
+use lib.Bits.{bit_and, and_mask}
 use lib.Count.{ones, ones-le}
 use Rattle.std.proofs.lemmas.Nat.{one_shl}
 use Rattle.quadratic.proofs.Bitlaws.{and_low}

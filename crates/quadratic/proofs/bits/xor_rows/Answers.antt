@@ -1,7 +1,6 @@
-use Rattle.std.proofs.Common.{◌≡◌, ℕ, suc, ◌+◌, ◌*◌, ◌^◌, ◌<◌, ◌≤◌, ◌≢◌, List, length, get_or, set, sym, refl, ap, ◌∙◌, subst, ap₂, one-mul, zero-mul, arith, length-set, get_or-set_other, get_or-set_same, pow_pos}
+use Rattle.std.proofs.Common.{◌≡◌, ℕ, ◌*◌, ◌^◌, ◌<◌, List, length, get_or, set, sym, refl, ap, ◌∙◌, subst, ap₂, one-mul, zero-mul, arith, length-set, get_or-set_other, get_or-set_same, pow_pos}
 use native.Mathlib.Decide.{ℕ_discrete}
-use lib.Bits.{bit_xor, xor_zero_r, xor_lt}
-use lib.Pow.{pow-lt}
+use lib.Bits.{bit_xor, xor_zero_r}
 use Rattle.quadratic.specs.Bits.{bit}
 use Rattle.quadratic.proofs.Bitlaws.{bit-zero}
 use Rattle.quadratic.proofs.Lowest.{set_below, drop-bit, dropped, undropped}
@@ -48,8 +47,8 @@ bounds-table-a c = set_below 48 c.loop-left.left c.lowest-a.result c.loop-left.i
 pub bounds-table-a-in-loop-left : goal.bounds-table-a-in-loop-left
 bounds-table-a-in-loop-left c = set_below 48 c.loop-left.left c.lowest-a.result c.loop-left.invariant.0 c.lowest-a.ensures.on
 
-pub offset-bounds-table-a : goal.offset-bounds-table-a
-offset-bounds-table-a c = let i = set_below 48 c.loop-left.left c.lowest-a.result c.loop-left.invariant.0 c.lowest-a.ensures.on in
+pub offset_bounds-table-a : goal.offset_bounds-table-a
+offset_bounds-table-a c = let i = set_below 48 c.loop-left.left c.lowest-a.result c.loop-left.invariant.0 c.lowest-a.ensures.on in
     omega arith
 
 pub turned-left-requires : goal.turned-left-requires

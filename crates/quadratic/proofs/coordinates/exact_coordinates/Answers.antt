@@ -12,15 +12,15 @@ read r word own f e l w t = to_z-of_z {w = w64} {z = r} (record { sfits = f }) �
 
 pub returns : goal.returns
 returns c =
-    let sum = c.closed-form-sum.result in
+    let sum = c.closed_form-sum.result in
     let x = c.args.x.now in
     let words = four
-    (read c.signed.result c.word.result sum.a0 c.signed.type-inv c.signed.ensures c.word.type-inv c.word.ensures
-    (ap (λ z. z.re.re.0) c.closed-form-sum.ensures))
-    (read c.signed-2.result c.word-2.result sum.a1 c.signed-2.type-inv c.signed-2.ensures c.word-2.type-inv c.word-2.ensures
-    (ap (λ z. z.im.re.0) c.closed-form-sum.ensures))
-    (read c.signed-3.result c.word-3.result sum.a2 c.signed-3.type-inv c.signed-3.ensures c.word-3.type-inv c.word-3.ensures
-    (ap (λ z. z.re.im.0) c.closed-form-sum.ensures))
-    (read c.signed-4.result c.word-4.result sum.a3 c.signed-4.type-inv c.signed-4.ensures c.word-4.type-inv c.word-4.ensures
-    (ap (λ z. z.im.im.0) c.closed-form-sum.ensures)) in
+    (read c.signed.result c.word.result sum.a0 c.signed.type_inv c.signed.ensures c.word.type_inv c.word.ensures
+    (ap (λ z. z.re.re.0) c.closed_form-sum.ensures))
+    (read c.signed-2.result c.word-2.result sum.a1 c.signed-2.type_inv c.signed-2.ensures c.word-2.type_inv c.word-2.ensures
+    (ap (λ z. z.im.re.0) c.closed_form-sum.ensures))
+    (read c.signed-3.result c.word-3.result sum.a2 c.signed-3.type_inv c.signed-3.ensures c.word-3.type_inv c.word-3.ensures
+    (ap (λ z. z.re.im.0) c.closed_form-sum.ensures))
+    (read c.signed-4.result c.word-4.result sum.a3 c.signed-4.type_inv c.signed-4.ensures c.word-4.type_inv c.word-4.ensures
+    (ap (λ z. z.im.im.0) c.closed_form-sum.ensures)) in
     record { words = words; exact = words ∙ total-signed x; sizes = total-sized x }

@@ -1,13 +1,11 @@
-use Rattle.std.proofs.Common.{◌≡◌, ℕ, ◌+◌, ◌%◌, ◌^◌, ◌<◌, sym, ap, ◌∙◌, subst, ap₂, mod-lt, arith, pow_pos}
-use lib.Bits.{bit_xor, xor_lt}
-use lib.Pow.{pow-lt}
+use Rattle.std.proofs.Common.{◌≡◌, ℕ, ◌+◌, ◌%◌, ◌^◌, ◌<◌, sym, ap, ◌∙◌, ap₂, mod-lt, arith, pow_pos}
+use lib.Bits.{bit_xor}
 use Rattle.cyclotomic.specs.Ring.{wpow}
 use Rattle.quadratic.specs.Bits.{bit}
 use Rattle.quadratic.specs.Sums.{over, formPower}
 use Rattle.quadratic.specs.Value.{value_at}
 use Rattle.quadratic.proofs.Lowest.{set_below, drop-bit}
 use Rattle.quadratic.proofs.Over.{over_none, over-split}
-use Rattle.quadratic.proofs.Values.{value-lt}
 use Rattle.quadratic.proofs.running.+branch.Goals as goal
 
 pub returns-then-mask-eq0 : goal.returns-then-mask-eq0

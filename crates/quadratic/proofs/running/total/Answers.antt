@@ -1,4 +1,4 @@
-use Rattle.std.proofs.Common.{◌≡◌, sym, ap, ◌∙◌, subst, ap₂}
+use Rattle.std.proofs.Common.{◌≡◌, sym, ◌∙◌, subst, ap₂}
 use Rattle.quadratic.specs.Meets.{stringsIn}
 use Rattle.quadratic.specs.Sums.{total as total_of, over, formPower}
 use Rattle.quadratic.proofs.Closed.{closed}

@@ -1,4 +1,4 @@
-use Rattle.std.proofs.Common.{◌≡◌, ◌+◌, ◌≤◌, pos, ◌+ℤ◌, neg_ℤ, sym, refl, ap, ◌∙◌, ap₂, arith}
+use Rattle.std.proofs.Common.{◌≡◌, ◌+◌, ◌≤◌, pos, ◌+ℤ◌, neg_ℤ, sym, refl, ◌∙◌, ap₂, arith}
 use Rattle.cyclotomic.specs.Scalars.{unit}
 use Rattle.stabilizer.specs.Overlaps.{depth}
 use Rattle.stabilizer.proofs.Inner.{overlaps}
@@ -9,13 +9,13 @@ pub returns-then-epsilon-eq0 : goal.returns-then-epsilon-eq0
 returns-then-epsilon-eq0 c =
     let t = c.args.t.now in
     let s = c.args.s.now in
-    let i = c.in-ok-intersect.ensures in
-    let x = c.exponential-sum-sum.result in
+    let i = c.in_ok-intersect.ensures in
+    let x = c.exponential_sum-sum.result in
     let e = zero-lowered x (depth t + depth s) (sym c.epsilon.ensures ∙ c.if-epsilon-eq0.true) in
     record {
       number = i.number;
       value = overlaps t s c.intersect.new.out x x i.number (i.granted refl) (i.roomy refl)
-          c.exponential-sum-sum.ensures.bounds c.exponential-sum-sum.ensures.exact e;
+          c.exponential_sum-sum.ensures.bounds c.exponential_sum-sum.ensures.exact e;
       granted = i.granted;
       refused = λ l. absurd (omega (arith, l));
     }
@@ -24,18 +24,18 @@ pub returns : goal.returns
 returns c =
     let t = c.args.t.now in
     let s = c.args.s.now in
-    let i = c.in-ok-intersect.ensures in
-    let x = c.exponential-sum-sum.result in
+    let i = c.in_ok-intersect.ensures in
+    let x = c.exponential_sum-sum.result in
     let k = depth t + depth s in
     let ne = λ (z : x.epsilon ≡ 0). c.if-epsilon-eq0.false (c.epsilon.ensures ∙ z) in
-    let p = sum-power c.intersect.new.out x c.exponential-sum-sum.ensures.bounds ne in
+    let p = sum-power c.intersect.new.out x c.exponential_sum-sum.ensures.bounds ne in
     let low : c.depth.result + c.depth-2.result ≤ 10000 = omega (arith, c.depth.ensures.bound, c.depth-2.ensures.bound) in
     let power = subtracted c.power.result p.0 (c.depth.result + c.depth-2.result) (c.power.ensures ∙ p.1) p.2 low
     ∙ ap₂ (λ x k. x +ℤ neg_ℤ (pos k)) c.power.ensures (ap₂ ◌+◌ c.depth.ensures.value c.depth-2.ensures.value) in
     record {
       number = i.number;
       value = overlaps t s c.intersect.new.out x c.term.result i.number (i.granted refl) (i.roomy refl)
-          c.exponential-sum-sum.ensures.bounds c.exponential-sum-sum.ensures.exact
+          c.exponential_sum-sum.ensures.bounds c.exponential_sum-sum.ensures.exact
           (c.term.ensures ∙ ap₂ unit power c.turn.ensures ∙ term-lowered x k ne);
       granted = i.granted;
       refused = λ l. absurd (omega (arith, l));

@@ -5,7 +5,7 @@ use Rattle.cyclotomic.proofs.quads.Cyclotomic64Ring.negative.Goals as goal
 
 pub returns : goal.returns
 returns c =
-    four (low-wrapped (lit< tt) 1 _ _ c.wrapping-neg.ensures)
-    (low-wrapped (lit< tt) 1 _ _ c.wrapping-neg-2.ensures)
-    (low-wrapped (lit< tt) 1 _ _ c.wrapping-neg-3.ensures)
-    (low-wrapped (lit< tt) 1 _ _ c.wrapping-neg-4.ensures)
+    four (low-wrapped (lit< tt) 1 _ _ c.wrapping_neg.ensures)
+    (low-wrapped (lit< tt) 1 _ _ c.wrapping_neg-2.ensures)
+    (low-wrapped (lit< tt) 1 _ _ c.wrapping_neg-3.ensures)
+    (low-wrapped (lit< tt) 1 _ _ c.wrapping_neg-4.ensures)

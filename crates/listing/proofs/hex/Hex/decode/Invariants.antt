@@ -1,4 +1,4 @@
-use Rattle.std.proofs.Common.{◌≡◌, ℕ, ◌<◌, length, get_or, vec_items, vec_len}
+use Rattle.std.proofs.Common.{◌≡◌, ℕ, ◌<◌, get_or, vec_items, vec_len}
 use Rattle.listing.specs.Digits.{byte_at}
 use Rattle.listing.proofs.hex.Hex.decode.Given as goal
 

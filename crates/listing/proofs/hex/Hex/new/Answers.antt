@@ -1,4 +1,4 @@
-use Rattle.std.proofs.Common.{◌≡◌, ℕ, List, [], ◌∷◌, length, get_or, refl, ap, inl, arith, rules}
+use Rattle.std.proofs.Common.{◌≡◌, ℕ, List, [], ◌∷◌, length, get_or, refl, ap, inl, arith}
 use Rattle.listing.specs.Digits.{Paired, digitsOf}
 use Rattle.listing.proofs.hex.Hex.new.Goals as goal
 

@@ -1,4 +1,4 @@
-use Rattle.std.proofs.Common.{◌≡◌, ℕ, ◌*◌, ◌^◌, ◌<◌, sym, refl, ap, ◌∙◌, lt_of_lt_of_le, zero-mul, arith, pow_mono}
+use Rattle.std.proofs.Common.{◌*◌, ◌^◌, ap, ◌∙◌, lt_of_lt_of_le, zero-mul, pow_mono}
 use lib.Bits.{bit_xor, xor_zero_l, xor_zero_r}
 use Rattle.quadratic.specs.Bits.{bit}
 use Rattle.quadratic.specs.Echelon.{row}

@@ -1,4 +1,4 @@
-use Rattle.std.proofs.Common.{◌≡◌, ℕ, ◌*◌, ◌^◌, ◌<◌, sym, refl, ap, ◌∙◌, subst, lt_of_lt_of_le, arith, pow_mono}
+use Rattle.std.proofs.Common.{◌≡◌, ℕ, ◌*◌, ◌^◌, sym, refl, ap, ◌∙◌, subst, lt_of_lt_of_le, arith, pow_mono}
 use lib.Bits.{bit_xor, xor_zero_l}
 use Rattle.quadratic.specs.Bits.{bit}
 use Rattle.quadratic.specs.Echelon.{row}
@@ -19,8 +19,8 @@ loop-left-init c =
 pub bounds-self-p : goal.bounds-self-p
 bounds-self-p c = set_below 48 c.loop-left.left c.lowest-p.result (c.loop-left.invariant.1 0).0 c.lowest-p.ensures.on
 
-pub offset-bounds-self-p : goal.offset-bounds-self-p
-offset-bounds-self-p c =
+pub offset_bounds-self-p : goal.offset_bounds-self-p
+offset_bounds-self-p c =
     let l = set_below 48 c.loop-left.left c.lowest-p.result (c.loop-left.invariant.1 0).0 c.lowest-p.ensures.on in
     omega arith
 
@@ -29,8 +29,8 @@ turned-requires c =
     let l = set_below 48 c.loop-left.left c.lowest-p.result (c.loop-left.invariant.1 0).0 c.lowest-p.ensures.on in
     omega arith
 
-pub xor-rows-requires : goal.xor-rows-requires
-xor-rows-requires c =
+pub xor_rows-requires : goal.xor_rows-requires
+xor_rows-requires c =
     let l = set_below 48 c.loop-left.left c.lowest-p.result (c.loop-left.invariant.1 0).0 c.lowest-p.ensures.on in
     lt_of_lt_of_le (c.args.self.now.low c.lowest-p.result) (pow_mono l)
 
@@ -48,10 +48,10 @@ loop-left-preserved c =
     let left = c.loop-left.left in
     let p = c.lowest-p.result in
     let t = c.loop-left.table in
-    let t' = c.xor-rows.new.table in (
-      c.xor-rows.array_long,
+    let t' = c.xor_rows.new.table in (
+      c.xor_rows.array_long,
       λ i.
-          let e : row t' i ≡ bit_xor (row t i) (bit (R p) i * 2 ^ p) = c.xor-rows.ensures i
+          let e : row t' i ≡ bit_xor (row t i) (bit (R p) i * 2 ^ p) = c.xor_rows.ensures i
           ∙ ap (λ m. bit_xor (row t i) (bit (R p) i * m)) (c.turned.ensures ∙ xor_zero_l (2 ^ p)) in
           let f = λ (k : ℕ). bit (R k) i in
           subst (λ x. Gathered f x (row t' i)) (sym c.turned-left.ensures)

@@ -1,6 +1,6 @@
-use Rattle.std.proofs.Common.{◌≡◌, ℕ, ◌*◌, sym, refl, ap, ◌∙◌, ap₂, le_antisymm, one-mul, zero-mul, add-one, arith}
+use Rattle.std.proofs.Common.{◌≡◌, ◌*◌, sym, ap, ◌∙◌, ap₂, le_antisymm, one-mul, zero-mul, add-one, arith}
 use lib.Bits.{bit_xor, xor_zero_r}
-use Rattle.quadratic.specs.Bits.{span, bit}
+use Rattle.quadratic.specs.Bits.{span}
 use Rattle.quadratic.specs.Echelon.{row, combination}
 use Rattle.quadratic.proofs.affine.AffineSpace.combination.Goals as goal
 use Rattle.quadratic.proofs.affine.AffineSpace.combination.Goals.{then-bit-eq1, else-bit-eq1}

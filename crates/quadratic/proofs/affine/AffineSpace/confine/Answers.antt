@@ -6,7 +6,7 @@ use Rattle.quadratic.proofs.Confine.{agree-none, agree-pivot, agree-cut, agree-e
 use Rattle.quadratic.proofs.Laws.{tested}
 use Rattle.quadratic.proofs.Settle.{check-is}
 use Rattle.quadratic.proofs.affine.AffineSpace.confine.Goals as goal
-use Rattle.quadratic.proofs.affine.AffineSpace.confine.Goals.{then-bit-eq0+in-default, else-bit-eq0}
+use Rattle.quadratic.proofs.affine.AffineSpace.confine.Goals.{then-bit-eq0+in_default, else-bit-eq0}
 
 pub loop-i-init : goal.loop-i-init
 loop-i-init c = agree-none c.args.self.now c.args.other.now
@@ -27,7 +27,7 @@ loop-i-preserved c =
     let t = c.args.other.now in
     let i = c.loop-i.i in
     elim c.if-bit-eq0.branch [
-      | then-bit-eq0+in-default w ↦
+      | then-bit-eq0+in_default w ↦
           let b = w.bit-then-bit-eq0.ensures in
           let off : bit t.pivots i ≡ 0 = sym c.bit.ensures.0 ∙ w.if-bit-eq0.true in
           subst (λ x. Agreeing s x t (i + 1)) (sym w.self-is)
@@ -35,7 +35,7 @@ loop-i-preserved c =
           (check-is t i (row c.columns-columns.result i) (c.columns-columns.ensures.bits i) _ w.turned-w.ensures)
           w.restrict.result w.restrict.new.self (flag (eqb w.bit-then-bit-eq0.result 1))
           (tested w.bit-then-bit-eq0.result _ b.0 b.1)
-          w.in-default.not-Empty w.restrict.ensures.strings)
+          w.in_default.not-Empty w.restrict.ensures.strings)
       | else-bit-eq0 w ↦
           let on : bit t.pivots i ≡ 1 = omega (arith, c.bit.ensures.0, c.bit.ensures.1, w.if-bit-eq0.false) in
           subst (λ x. Agreeing s x t (i + 1)) (sym w.self-is) (agree-pivot s c.loop-i.self t i c.loop-i.invariant on)

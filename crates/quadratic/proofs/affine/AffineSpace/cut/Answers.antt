@@ -1,16 +1,23 @@
-use Rattle.std.proofs.Common.{◌≡◌, sym, refl, ap, ◌∙◌}
+use Rattle.std.proofs.Common.{refl}
 use Rattle.quadratic.specs.Echelon.{row}
 use Rattle.quadratic.proofs.Laws.{facts}
 use Rattle.quadratic.proofs.Restrict.{new-facts, cut-half}
 use Rattle.quadratic.proofs.affine.AffineSpace.cut.Goals as goal
 
-pub invariant-of-self : goal.invariant-of-self
-invariant-of-self c =
+pub invariant_of-self : goal.invariant_of-self
+invariant_of-self c =
     let s = c.args.self.now in
     let f = new-facts s.pivots (row s.rows) s.shift (facts s) c.args.l c.requires.part c.args.p c.requires.on c.requires.least
-    (row c.xor-rows.new.table) c.xor-rows.ensures c.turned-self.result c.turned-self.ensures
+    (row c.xor_rows.new.table) c.xor_rows.ensures c.turned-self.result c.turned-self.ensures
     c.args.beta c.requires.small in
-    (f.within, (f.low, (f.lead, (f.idle, (f.inside, (f.clean, tt))))))
+    record {
+      within = f.within;
+      low = f.low;
+      lead = f.lead;
+      idle = f.idle;
+      inside = f.inside;
+      clean = f.clean;
+    }
 
 pub returns : goal.returns
 returns c =
@@ -18,5 +25,5 @@ returns c =
     record {
       pivots = c.turned-self.ensures;
       half = cut-half s _ c.args.l c.args.p c.args.beta c.requires.part c.requires.on c.requires.least
-          c.requires.small c.xor-rows.ensures c.turned-self.ensures refl;
+          c.requires.small c.xor_rows.ensures c.turned-self.ensures refl;
     }

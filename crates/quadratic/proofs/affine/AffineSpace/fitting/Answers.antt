@@ -3,7 +3,6 @@ use native.Mathlib.Decide.{dec_lt}
 use lib.Bits.{bit_xor, xor_zero_l}
 use Rattle.quadratic.specs.Bits.{bit}
 use Rattle.quadratic.specs.Echelon.{row}
-use Rattle.quadratic.specs.Strings.{Fitting}
 use Rattle.quadratic.proofs.Append.{one-top, low-none, above}
 use Rattle.quadratic.proofs.Bitlaws.{bit-zero, not-both}
 use Rattle.quadratic.proofs.Dots.{by_bits}

@@ -4,14 +4,15 @@ use Rattle.quadratic.specs.Echelon.{row}
 use Rattle.quadratic.proofs.Lists.{getD-zeros}
 use Rattle.quadratic.proofs.affine.AffineSpace.origin.Goals as goal
 
-pub invariant-of-result : goal.invariant-of-result
-invariant-of-result c = (
-  pow_pos 48,
-  (
-    λ p. rw (getD-zeros 48 p) (pow_pos (suc p)),
-    (λ p. and_zero_r (row (replicate 48 0) p) ∙ sym (and_zero_r (2 ^ p)), (λ p z. getD-zeros 48 p, (pow_pos 48, (and_zero_r 0, tt)))),
-  ),
-)
+pub invariant_of-result : goal.invariant_of-result
+invariant_of-result c = record {
+  within = pow_pos 48;
+  low = λ p. rw (getD-zeros 48 p) (pow_pos (suc p));
+  lead = λ p. and_zero_r (row (replicate 48 0) p) ∙ sym (and_zero_r (2 ^ p));
+  idle = λ p z. getD-zeros 48 p;
+  inside = pow_pos 48;
+  clean = and_zero_r 0;
+}
 
 pub returns : goal.returns
 returns c = (refl, (getD-zeros 48, refl))

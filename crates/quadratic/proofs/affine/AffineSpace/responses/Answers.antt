@@ -1,6 +1,6 @@
-use Rattle.std.proofs.Common.{◌≡◌, ℕ, ◌*◌, ◌%◌, ◌^◌, ◌<◌, sym, ap, ◌∙◌, subst, arith}
+use Rattle.std.proofs.Common.{ℕ, ◌*◌, ◌%◌, ◌^◌, ◌<◌, sym, ap, ◌∙◌, subst, arith}
 use lib.Bits.{bit_xor}
-use Rattle.quadratic.specs.Bits.{bit, dot}
+use Rattle.quadratic.specs.Bits.{dot}
 use Rattle.quadratic.specs.Echelon.{row}
 use Rattle.quadratic.proofs.Gather.{Gathered, gather_none, gather-more, gather-all, placed}
 use Rattle.quadratic.proofs.Laws.{dot-none}
@@ -16,12 +16,12 @@ loop-left-init c =
 pub bounds-self-p : goal.bounds-self-p
 bounds-self-p c = set_below 48 c.loop-left.left c.lowest-p.result c.loop-left.invariant.0 c.lowest-p.ensures.on
 
-pub offset-bounds-self-p : goal.offset-bounds-self-p
-offset-bounds-self-p c = let l = set_below 48 c.loop-left.left c.lowest-p.result c.loop-left.invariant.0 c.lowest-p.ensures.on in
+pub offset_bounds-self-p : goal.offset_bounds-self-p
+offset_bounds-self-p c = let l = set_below 48 c.loop-left.left c.lowest-p.result c.loop-left.invariant.0 c.lowest-p.ensures.on in
     omega arith
 
-pub overflow-shl-l : goal.overflow-shl-l
-overflow-shl-l c = let l = set_below 48 c.loop-left.left c.lowest-p.result c.loop-left.invariant.0 c.lowest-p.ensures.on in omega arith
+pub overflow_shl-l : goal.overflow_shl-l
+overflow_shl-l c = let l = set_below 48 c.loop-left.left c.lowest-p.result c.loop-left.invariant.0 c.lowest-p.ensures.on in omega arith
 
 pub turned-left-requires : goal.turned-left-requires
 turned-left-requires c =

@@ -1,6 +1,5 @@
-use Rattle.std.proofs.Common.{◌≡◌, sym, refl, ap, ◌∙◌, ap₂, arith}
+use Rattle.std.proofs.Common.{sym, refl, ◌∙◌, ap₂}
 use lib.Bits.{bit_xor, xor_self, xor_zero_l, xor_lt}
-use Rattle.quadratic.specs.Bits.{dot}
 use Rattle.quadratic.proofs.Lowest.{set_below}
 use Rattle.quadratic.specs.Bits.{flag}
 use Rattle.quadratic.specs.Echelon.{row}

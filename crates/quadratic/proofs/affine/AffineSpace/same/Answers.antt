@@ -1,4 +1,4 @@
-use Rattle.std.proofs.Common.{◌≡◌, sym, arith}
+use Rattle.std.proofs.Common.{sym, arith}
 use Rattle.quadratic.proofs.Distinct.{pivots-same, shift_same, row_same, strings-same}
 use Rattle.quadratic.proofs.affine.AffineSpace.same.Goals as goal
 

@@ -16,5 +16,5 @@ returns-else-base-eq0 c =
     let t = c.args.times in
     let m = c.args.mask in
     let one : 1 ≡ c.args.base = omega (arith, c.requires.small, c.if-base-eq0.false) in
-    λ p. c.add-parity-else-base-eq0.ensures p ∙ ap (λ x. (x + (8 - t) % 8 * dot m p) % 8) (c.add-phase.ensures p)
+    λ p. c.add_parity-else-base-eq0.ensures p ∙ ap (λ x. (x + (8 - t) % 8 * dot m p) % 8) (c.add_phase.ensures p)
     ∙ taken (value_at f p) t c.requires.even.0 (dot m p) (dot-lt m p) ∙ ap (λ b. (value_at f p + t * bit_xor b (dot m p)) % 8) one

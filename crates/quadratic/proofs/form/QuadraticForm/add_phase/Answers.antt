@@ -1,9 +1,8 @@
-use Rattle.std.proofs.Common.{◌≡◌, ℕ, zero, suc, ◌+◌, ◌*◌, ◌%◌, sym, refl, ap, ◌∙◌, mod-lt, arith, lit<}
+use Rattle.std.proofs.Common.{◌≡◌, ℕ, zero, suc, ◌+◌, ◌*◌, ◌%◌, mod-lt, arith, lit<}
 use native.Mathlib.Nat.{mod-mod}
 use Rattle.quadratic.specs.Bits.{bit, inner}
 use Rattle.quadratic.specs.Quadratic.{quad, coef, link}
 use Rattle.quadratic.specs.Value.{terms, value_at}
-use Rattle.quadratic.specs.declared.form.QuadraticForm.{QuadraticForm}
 use Rattle.quadratic.proofs.form.QuadraticForm.add_phase.Goals as goal
 
 carried : (a b k t : ℕ) → a % 8 ≡ (b + k) % 8 → (a + t) % 8 ≡ (b + t + k) % 8
@@ -17,10 +16,17 @@ shifted Q Q' k D J c h (suc n) = carried (quad Q' D J c n) (quad Q D J c n) k (c
 once : (a b k : ℕ) → a ≡ (b + k) % 8 → a ≡ (b % 8 + k) % 8
 once a b k h = omega arith
 
-pub invariant-of-self : goal.invariant-of-self
-invariant-of-self c =
+pub invariant_of-self : goal.invariant_of-self
+invariant_of-self c =
     let f = c.args.self.now in
-    (mod-lt (f.phase + c.args.k) (lit< tt), (f.odds, (f.negs, (f.inside, (f.square, (f.own, tt))))))
+    record {
+      phased = mod-lt (f.phase + c.args.k) (lit< tt);
+      odds = f.odds;
+      negs = f.negs;
+      inside = f.inside;
+      square = f.square;
+      own = f.own;
+    }
 
 pub returns : goal.returns
 unfolding value_at

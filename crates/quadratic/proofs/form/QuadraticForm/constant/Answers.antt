@@ -13,10 +13,17 @@ no-link a b = ap (λ r. bit r b) (getD-zeros 48 a) ∙ bit-zero b
 no-coef : (k : ℕ) → coef 0 0 k ≡ 0
 no-coef k = ap (λ b. 2 * b + 4 * b) (bit-zero k)
 
-pub invariant-of-result : goal.invariant-of-result
-invariant-of-result c =
+pub invariant_of-result : goal.invariant_of-result
+invariant_of-result c =
     let p = pow_pos 48 in
-    (c.requires, (p, (p, (λ a. rw (getD-zeros 48 a) p, (λ a b. no-link a b ∙ sym (no-link b a), (λ a. no-link a a ∙ sym (bit-zero a), tt))))))
+    record {
+      phased = c.requires;
+      odds = p;
+      negs = p;
+      inside = λ a. rw (getD-zeros 48 a) p;
+      square = λ a b. no-link a b ∙ sym (no-link b a);
+      own = λ a. no-link a a ∙ sym (bit-zero a);
+    }
 
 pub returns : goal.returns
 unfolding value_at

@@ -1,5 +1,4 @@
-use Rattle.std.proofs.Common.{◌≡◌, ◌*◌, sym, ap, ◌∙◌, arith}
-use Rattle.quadratic.specs.Bits.{bit}
+use Rattle.std.proofs.Common.{◌*◌, sym, ap, ◌∙◌}
 use Rattle.quadratic.proofs.Bitlaws.{bit_past}
 use Rattle.quadratic.proofs.form.QuadraticForm.coupling.Goals as goal
 

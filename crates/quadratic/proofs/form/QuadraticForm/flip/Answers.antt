@@ -1,4 +1,4 @@
-use Rattle.std.proofs.Common.{◌≡◌, ◌+◌, ◌*◌, ◌%◌, ◌^◌, get_or, sym, refl, ap, ◌∙◌, arith}
+use Rattle.std.proofs.Common.{◌≡◌, ◌+◌, ◌*◌, ◌%◌, ◌^◌, get_or, sym, ap, ◌∙◌, arith}
 use lib.Bits.{bit_xor, xor_lt}
 use Rattle.quadratic.specs.Bits.{bit}
 use Rattle.quadratic.specs.Quadratic.{quad, coef, link}
@@ -9,18 +9,16 @@ use Rattle.quadratic.proofs.Dots.{dot-pow}
 use Rattle.quadratic.proofs.Rows.{value-shift}
 use Rattle.quadratic.proofs.form.QuadraticForm.flip.Goals as goal
 
-pub invariant-of-self : goal.invariant-of-self
-invariant-of-self c =
-    let f = c.args.self.now in (
-      omega arith,
-      (
-        f.odds,
-        (
-          xor_lt 48 f.neg (get_or f.coupling c.args.a 0) f.negs (f.inside c.args.a),
-          (f.inside, (f.square, (f.own, tt))),
-        ),
-      ),
-    )
+pub invariant_of-self : goal.invariant_of-self
+invariant_of-self c =
+    let f = c.args.self.now in record {
+      phased = omega arith;
+      odds = f.odds;
+      negs = xor_lt 48 f.neg (get_or f.coupling c.args.a 0) f.negs (f.inside c.args.a);
+      inside = f.inside;
+      square = f.square;
+      own = f.own;
+    }
 
 pub returns : goal.returns
 unfolding value_at

@@ -1,4 +1,4 @@
-use Rattle.std.proofs.Common.{◌≡◌, ◌+◌, ◌*◌, sym, ap₂, arith}
+use Rattle.std.proofs.Common.{◌+◌, ◌*◌, sym, ap₂, arith}
 use Rattle.quadratic.proofs.Bitlaws.{bit_past}
 use Rattle.quadratic.proofs.form.QuadraticForm.linear.Goals as goal
 

@@ -1,4 +1,4 @@
-use Rattle.std.proofs.Common.{◌≡◌, ℕ, ◌+◌, ◌-◌, ◌*◌, ◌%◌, ◌^◌, ◌<◌, List, get_or, sym, refl, ap, ◌∙◌, ap₂, lt_of_le_of_lt, arith}
+use Rattle.std.proofs.Common.{◌≡◌, ℕ, ◌+◌, ◌-◌, ◌*◌, ◌%◌, ◌<◌, List, get_or, sym, refl, ap, ◌∙◌, ap₂, lt_of_le_of_lt, arith}
 use native.Mathlib.Nat.{mod-mod}
 use lib.Bits.{bit_and, bit_xor, xor_lt, and_le_l}
 use Rattle.quadratic.specs.Bits.{bit}
@@ -30,29 +30,21 @@ links : (t t₁ t₂ : List ℕ) → ((k : ℕ) → get_or t₁ k 0 ≡ bit_xor 
     ≡ (link t a b + link t₂ a b) % 2
 links t t₁ t₂ e a b = ap (λ r. bit r b) (e a) ∙ bit-xor (get_or t a 0) (get_or t₂ a 0) b
 
-pub invariant-of-result : goal.invariant-of-result
-invariant-of-result c =
+pub invariant_of-result : goal.invariant_of-result
+invariant_of-result c =
     let f = c.args.self.now in
     let g = c.args.other.now in
-    let is = links f.coupling c.xor-tables.new.table g.coupling c.xor-tables.ensures in
+    let is = links f.coupling c.xor_tables.new.table g.coupling c.xor_tables.ensures in
     let odd = xor_lt 48 f.odd g.odd f.odds g.odds in
-    let carry = lt_of_le_of_lt (and_le_l g.odd (bit_xor f.odd g.odd)) g.odds in (
-      omega arith,
-      (
-        odd,
-        (
-          xor_lt 48 (bit_xor f.neg g.neg) (bit_and g.odd (bit_xor f.odd g.odd))
-              (xor_lt 48 f.neg g.neg f.negs g.negs) carry,
-          (
-            λ a. rw (c.xor-tables.ensures a) (xor_lt 48 (get_or f.coupling a 0) (get_or g.coupling a 0) (f.inside a) (g.inside a)),
-            (
-              λ a b. is a b ∙ ap₂ (λ x y. (x + y) % 2) (f.square a b) (g.square a b) ∙ sym (is b a),
-              (λ a. is a a ∙ ap₂ (λ x y. (x + y) % 2) (f.own a) (g.own a) ∙ sym (bit-xor f.odd g.odd a), tt),
-            ),
-          ),
-        ),
-      ),
-    )
+    let carry = lt_of_le_of_lt (and_le_l g.odd (bit_xor f.odd g.odd)) g.odds in record {
+      phased = omega arith;
+      odds = odd;
+      negs = xor_lt 48 (bit_xor f.neg g.neg) (bit_and g.odd (bit_xor f.odd g.odd))
+          (xor_lt 48 f.neg g.neg f.negs g.negs) carry;
+      inside = λ a. rw (c.xor_tables.ensures a) (xor_lt 48 (get_or f.coupling a 0) (get_or g.coupling a 0) (f.inside a) (g.inside a));
+      square = λ a b. is a b ∙ ap₂ (λ x y. (x + y) % 2) (f.square a b) (g.square a b) ∙ sym (is b a);
+      own = λ a. is a a ∙ ap₂ (λ x y. (x + y) % 2) (f.own a) (g.own a) ∙ sym (bit-xor f.odd g.odd a);
+    }
 
 phases : (a b : ℕ) → a < 8 → b < 8 → ((a + 8 - b) % 8 + b) % 8 ≡ a % 8
 phases a b ha hb = omega arith
@@ -65,7 +57,7 @@ unfolding value_at
 returns c = λ p.
     let f = c.args.self.now in
     let g = c.args.other.now in
-    let t = c.xor-tables.new.table in
+    let t = c.xor_tables.new.table in
     let odd = bit_xor f.odd g.odd in
     let neg = bit_xor (bit_xor f.neg g.neg) (bit_and g.odd odd) in
     let Q = (f.phase + 8 - g.phase) % 8 in
@@ -74,5 +66,5 @@ returns c = λ p.
     ∙ quad-sum f.phase Q g.phase (coef f.odd f.neg) (coef odd neg) (coef g.odd g.neg)
     (link f.coupling) (link t) (link g.coupling) (bit p)
     (bit-lt p) (phases f.phase g.phase f.phased g.phased) (coefs f.odd g.odd f.neg g.neg)
-    (λ a b. ap (λ x. (x + link g.coupling a b) % 2) (links f.coupling t g.coupling c.xor-tables.ensures a b)
+    (λ a b. ap (λ x. (x + link g.coupling a b) % 2) (links f.coupling t g.coupling c.xor_tables.ensures a b)
     ∙ parities (link f.coupling a b) (link g.coupling a b)) 48

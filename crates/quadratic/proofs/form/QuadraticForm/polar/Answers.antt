@@ -17,8 +17,8 @@ unfolding value_at
 returns c =
     let f = c.args.self.now in
     let u = c.args.u in
-    let w = c.odd-rows.result in
+    let w = c.odd_rows.result in
     λ p. reduced (terms f (bit_xor p u) 48) (terms f 0 48) (terms f p 48) (terms f u 48) (dot w p)
     (ap (λ y. (terms f (bit_xor p u) 48 + y) % 8) (quad-zero f.phase (coef f.odd f.neg) (link f.coupling) (bit 0) 48 bit-zero)
-    ∙ value-polar 48 f.phase f.odd f.neg f.coupling u w p f.inside f.square f.own c.odd-rows.ensures.below
-    (λ a i. c.odd-rows.ensures.bits a i ∙ dot-comm u (get_or f.coupling a 0)))
+    ∙ value-polar 48 f.phase f.odd f.neg f.coupling u w p f.inside f.square f.own c.odd_rows.ensures.below
+    (λ a i. c.odd_rows.ensures.bits a i ∙ dot-comm u (get_or f.coupling a 0)))

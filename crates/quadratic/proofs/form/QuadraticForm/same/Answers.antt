@@ -1,4 +1,4 @@
-use Rattle.std.proofs.Common.{◌≡◌, arith}
+use Rattle.std.proofs.Common.{arith}
 use Rattle.quadratic.proofs.Unique.{same-form, equal-values, rows-48}
 use Rattle.quadratic.proofs.form.QuadraticForm.same.Goals as goal
 

@@ -1,4 +1,4 @@
-use Rattle.std.proofs.Common.{◌≡◌, ◌+◌, ◌%◌, ap, ◌∙◌, arith}
+use Rattle.std.proofs.Common.{◌+◌, ◌%◌, ap, ◌∙◌, arith}
 use Rattle.quadratic.specs.Value.{value_at}
 use Rattle.quadratic.proofs.Clear.{slope-at}
 use Rattle.quadratic.proofs.form.QuadraticForm.slope.Goals as goal

@@ -1,7 +1,7 @@
-use Rattle.std.proofs.Common.{◌≡◌, ℕ, ◌+◌, ◌*◌, ◌%◌, ◌^◌, ◌<◌, get_or, sym, refl, ap, ◌∙◌, arith}
+use Rattle.std.proofs.Common.{◌≡◌, ℕ, ◌+◌, ◌*◌, ◌%◌, ◌^◌, get_or, sym, ap, ◌∙◌, arith}
 use lib.Bits.{bit_and, bit_xor}
 use Rattle.std.proofs.lemmas.Nat.{one_shl}
-use Rattle.quadratic.specs.Bits.{bit, dot}
+use Rattle.quadratic.specs.Bits.{dot}
 use Rattle.quadratic.specs.Quadratic.{coef}
 use Rattle.quadratic.specs.Value.{value_at}
 use Rattle.quadratic.proofs.Values.{value-lt}
@@ -9,8 +9,8 @@ use Rattle.quadratic.proofs.Clear.{gone, mask_below, slope-at}
 use Rattle.quadratic.proofs.Substitute.{dot-keep, subst-free, subst-values}
 use Rattle.quadratic.proofs.form.QuadraticForm.substitute.Goals as goal
 
-pub add-product-requires : goal.add-product-requires
-add-product-requires c =
+pub add_product-requires : goal.add_product-requires
+add_product-requires c =
     let f = c.args.self.now in
     let a = c.args.a in
     let e = one_shl a 64 (omega arith) in
@@ -28,14 +28,14 @@ returns c =
     let te : t ≡ coef f.odd f.neg a = omega (arith, c.bit.ensures.0, c.bit-2.ensures.0) in
     let v = value_at f in
     let v₁ = value_at c.clear.new.self in
-    let v₂ = value_at c.add-parity.new.self in
-    let v₃ = value_at c.add-product.new.self in
+    let v₂ = value_at c.add_parity.new.self in
+    let v₃ = value_at c.add_product.new.self in
     let up = λ (p : ℕ). slope-at f a p c.requires.0 ∙ ap (λ d. (value_at f p + (d + 4 * dot row p)) % 8) (sym te) in
     record {
       values = subst-values a c.args.mask rest row t v v₁ v₂ v₃ (value-lt f) up c.clear.ensures.off
-          c.clear.ensures.free c.add-parity.ensures c.add-product.ensures
+          c.clear.ensures.free c.add_parity.ensures c.add_product.ensures
           c.requires.1.1 (gone row h a e) (λ p z. dot-keep row h a p e z);
       free = subst-free a c.args.mask rest row t v v₁ v₂ v₃ (value-lt f) up c.clear.ensures.off
-          c.clear.ensures.free c.add-parity.ensures c.add-product.ensures
+          c.clear.ensures.free c.add_parity.ensures c.add_product.ensures
           c.requires.1.1 (gone row h a e) (λ p z. dot-keep row h a p e z);
     }

@@ -1,4 +1,4 @@
-use Rattle.std.proofs.Common.{◌≡◌, ℕ, suc, ◌+◌, ◌*◌, ◌%◌, sym, refl, ap, ◌∙◌, le_antisymm, add-one, arith}
+use Rattle.std.proofs.Common.{◌≡◌, ℕ, ◌+◌, ◌*◌, ◌%◌, sym, ap, ◌∙◌, le_antisymm, add-one, arith}
 use Rattle.quadratic.specs.Bits.{bit, inner}
 use Rattle.quadratic.specs.Quadratic.{coef, link}
 use Rattle.quadratic.specs.Value.{terms, value_at}
@@ -26,9 +26,9 @@ loop-a-preserved c =
       | then-bit-eq1 w ↦
           w.sum-is
           ∙ on c.loop-a.sum q (bit p a) (bit f.odd a) (bit f.neg a) x w.bit-then-bit-eq1.result
-          w.bit-then-bit-eq1-2.result w.shared-below.result
+          w.bit-then-bit-eq1-2.result w.shared_below.result
           c.loop-a.invariant (sym c.bit.ensures.0 ∙ w.if-bit-eq1.true) w.bit-then-bit-eq1.ensures.0
-          w.bit-then-bit-eq1-2.ensures.0 w.shared-below.ensures.0
+          w.bit-then-bit-eq1-2.ensures.0 w.shared_below.ensures.0
       | else-bit-eq1 w ↦ w.sum-is ∙ off c.loop-a.sum q (d + 4 * x) (bit p a) c.loop-a.invariant (omega arith)
     ])
 

@@ -12,9 +12,9 @@ returns c =
     let w = c.args.w in
     let n = c.args.n in
     record {
-      phases = λ y. c.add-parity.ensures.phases y
-          ∙ ap (turn (2 * (2 * b) * dot n y)) (c.add-product.ensures.phases y
-          ∙ ap (turn (4 * (dot w y * dot n y))) (c.add-affine.ensures.phases y))
+      phases = λ y. c.add_parity.ensures.phases y
+          ∙ ap (turn (2 * (2 * b) * dot n y)) (c.add_product.ensures.phases y
+          ∙ ap (turn (4 * (dot w y * dot n y))) (c.add_affine.ensures.phases y))
           ∙ across c.args.quarters b (dot w y) (dot n y) c.requires (dot-lt w y) (dot-lt n y) (phase c.args.self.now y);
-      space = c.add-parity.ensures.space ∙ c.add-product.ensures.space ∙ c.add-affine.ensures.space;
+      space = c.add_parity.ensures.space ∙ c.add_product.ensures.space ∙ c.add_affine.ensures.space;
     }

@@ -9,4 +9,4 @@ whole v k = omega arith
 pub returns : goal.returns
 returns c =
     let s = c.args.self.now in
-    turned_by s _ (λ y. c.args.k) refl (λ y m. c.add-phase.ensures y ∙ whole (value_at s.form y) c.args.k)
+    turned_by s _ (λ y. c.args.k) refl (λ y m. c.add_phase.ensures y ∙ whole (value_at s.form y) c.args.k)

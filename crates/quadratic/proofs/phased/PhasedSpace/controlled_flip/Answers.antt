@@ -9,10 +9,10 @@ returns-in-Some c = (
   c.if-j-ge48.false,
   c.if-l-ge48.false,
   c.if-j-l.false,
-  turned-shear c.args.self.now c.add-parity.new.self c.add-product.new.self c.args.j c.args.l
+  turned-shear c.args.self.now c.add_parity.new.self c.add_product.new.self c.args.j c.args.l
       c.turned-control.result c.in-Some.quarters c.in-Some.lambda c.turned.result
       (λ y. one-dot c.turned-control.result c.args.j y c.turned-control.ensures) c.turned.ensures
-      c.in-Some.ensures.1 c.add-parity.ensures c.add-product.ensures,
+      c.in-Some.ensures.1 c.add_parity.ensures c.add_product.ensures,
 )
 
 pub slide-requires : goal.slide-requires
@@ -20,5 +20,5 @@ slide-requires c = record {
   control = c.if-j-ge48.false;
   place = c.if-l-ge48.false;
   two = c.if-j-l.false;
-  outside = subst (Outside c.args.self.now) c.turned.ensures c.in-default.ensures;
+  outside = subst (Outside c.args.self.now) c.turned.ensures c.in_default.ensures;
 }

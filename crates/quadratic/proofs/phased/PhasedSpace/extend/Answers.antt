@@ -41,9 +41,9 @@ returns c =
     let p = c.highest-p.result in
     let off = ap (λ x. bit_and x P) c.rest-rest.ensures
     ∙ red-clean P (row s.space.rows) s.space.shift (facts s.space) c.args.d in
-    extended s c.insert.new.self c.add-across.new.self c.args.d c.args.quarters c.args.z
+    extended s c.insert.new.self c.add_across.new.self c.args.d c.args.quarters c.args.z
     c.gain-turns.result.0 c.gain-turns.result.1 c.check-w.result c.bit-base.result g p
     c.check-w.ensures (c.bit-base.ensures.0 ∙ ap (λ x. bit x p) c.shift.ensures) c.rest-rest.ensures
     c.highest-p.ensures.on (off-bit P g p (and_comm P g ∙ off) c.highest-p.ensures.on)
     c.insert.ensures.pivots c.insert.ensures.strings c.insert.ensures.form c.gain-turns.ensures.law
-    c.add-across.ensures.phases c.add-across.ensures.space
+    c.add_across.ensures.phases c.add_across.ensures.space

@@ -4,14 +4,13 @@ use Rattle.quadratic.proofs.Sight.{Seen}
 use Rattle.quadratic.proofs.Turning.{moved_by, seen-moved}
 use Rattle.quadratic.proofs.phased.PhasedSpace.flip.Goals as goal
 
-pub invariant-of-self : goal.invariant-of-self
-invariant-of-self c =
+pub invariant_of-self : goal.invariant_of-self
+invariant_of-self c =
     let s = c.args.self.now in
-    let v' = value_at c.flip-2.new.self in (
-      subst (Seen v') (sym c.flip.ensures.pivots)
-          (seen-moved (value_at s.form) v' s.space.pivots (2 ^ c.args.i) s.idle c.flip-2.ensures),
-      tt,
-    )
+    let v' = value_at c.flip-2.new.self in record {
+      idle = subst (Seen v') (sym c.flip.ensures.pivots)
+          (seen-moved (value_at s.form) v' s.space.pivots (2 ^ c.args.i) s.idle c.flip-2.ensures);
+    }
 
 pub returns : goal.returns
 returns c = (

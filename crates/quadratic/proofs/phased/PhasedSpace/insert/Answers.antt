@@ -14,11 +14,13 @@ insert-requires c = record {
   off = c.requires.off;
 }
 
-pub invariant-of-self : goal.invariant-of-self
-invariant-of-self c =
+pub invariant_of-self : goal.invariant_of-self
+invariant_of-self c =
     let s = c.args.self.now in
     let P = s.space.pivots in
     let P' = c.insert.new.self.pivots in
     let p = c.args.p in
     let free = off-bit P c.args.row p (and_comm P c.args.row ∙ c.requires.off) c.requires.on in
-    (wider (value_at s.form) P P' (one-wider P P' p free c.insert.ensures.pivots) s.idle, tt)
+    record {
+      idle = wider (value_at s.form) P P' (one-wider P P' p free c.insert.ensures.pivots) s.idle;
+    }

@@ -7,9 +7,9 @@ use Rattle.quadratic.proofs.Sight.{Seen, wider}
 use Rattle.quadratic.proofs.Values.{value-lt}
 use Rattle.quadratic.proofs.phased.PhasedSpace.meet.Goals as goal
 
-pub returns-in-default : goal.returns-in-default
-returns-in-default c =
-    record { phases = λ y. none-phase c.args.self.now c.args.other.now y (c.in-default.ensures y); wide = tt }
+pub returns-in_default : goal.returns-in_default
+returns-in_default c =
+    record { phases = λ y. none-phase c.args.self.now c.args.other.now y (c.in_default.ensures y); wide = tt }
 
 -- what the code settles
 settled : (P S T p s t : ℕ) → s ≡ S → t ≡ T → p ≡ P → bit_xor (bit_or s t) (bit_and (bit_or s t) p) ≡ gone P S T
@@ -26,8 +26,8 @@ settle-requires c =
       apart = ap (λ x. bit_and x P) e ∙ gone-apart P s.space.pivots t.space.pivots;
     }
 
-pub invariant-of-result : goal.invariant-of-result
-invariant-of-result c =
+pub invariant_of-result : goal.invariant_of-result
+invariant_of-result c =
     let s = c.args.self.now in
     let t = c.args.other.now in
     let P = c.in-Some.space.pivots in
@@ -39,7 +39,9 @@ invariant-of-result c =
     let seen : Seen (value_at r) M = seen_difference (value_at r) (value_at s.form) (value_at t.form) M
     (value-lt r) (value-lt t.form) c.minus-form.ensures
     (wider (value_at s.form) S M (first-shown P S T) s.idle) (wider (value_at t.form) T M (second-shown P S T) t.idle) in
-    (c.settle.ensures.seen (subst (λ x. Seen (value_at r) (bit_xor P x)) (sym e) seen), tt)
+    record {
+      idle = c.settle.ensures.seen (subst (λ x. Seen (value_at r) (bit_xor P x)) (sym e) seen);
+    }
 
 pub returns : goal.returns
 returns c =

@@ -1,4 +1,4 @@
-use Rattle.std.proofs.Common.{◌≡◌, Some, None, sym, ap, ◌∙◌}
+use Rattle.std.proofs.Common.{Some, sym, ap, ◌∙◌}
 use Rattle.quadratic.proofs.Phases.{phase-in, phase-out}
 use Rattle.quadratic.proofs.phased.PhasedSpace.phase_at.Goals as goal
 

@@ -17,13 +17,15 @@ settle-requires c =
       apart = ap (λ x. bit_and x s'.pivots) e ∙ gone-off s.pivots s'.pivots one.0 one.1 one.2;
     }
 
-pub invariant-of-self : goal.invariant-of-self
-invariant-of-self c =
+pub invariant_of-self : goal.invariant_of-self
+invariant_of-self c =
     let s = c.args.self.now in
     let P' = c.restrict.new.self.pivots in
     let e = ap₂ bit_xor c.pivots.ensures c.pivots-in-Restricted.ensures in
     let all = ap (bit_xor P') e ∙ gone-back s.space.pivots P' in
-    (c.settle.ensures.seen (subst (Seen (value_at s.form)) (sym all) s.idle), tt)
+    record {
+      idle = c.settle.ensures.seen (subst (Seen (value_at s.form)) (sym all) s.idle);
+    }
 
 pub returns-in-Restricted : goal.returns-in-Restricted
 returns-in-Restricted c =

@@ -1,4 +1,4 @@
-use Rattle.std.proofs.Common.{◌≡◌, ℕ, ◌*◌, ◌^◌, ◌<◌, sym, refl, ap, ◌∙◌, subst, zero-mul, arith, pow_pos}
+use Rattle.std.proofs.Common.{◌≡◌, ◌*◌, ◌^◌, sym, refl, ap, ◌∙◌, subst, zero-mul, arith, pow_pos}
 use lib.Bits.{bit_and, bit_xor, and_comm, xor_zero_r}
 use Rattle.quadratic.specs.Bits.{bit, dot}
 use Rattle.quadratic.specs.Echelon.{row}
@@ -17,8 +17,8 @@ returns-then-gone-eq0 c =
       seen = subst (Seen (value_at c.args.form.now)) (ap (bit_xor P) c.if-gone-eq0.true ∙ xor_zero_r P);
     }
 
-pub offset-bounds-columns-i : goal.offset-bounds-columns-i
-offset-bounds-columns-i c = let l = set_below 48 c.loop-left.left c.lowest-i.result c.loop-left.invariant.0 c.lowest-i.ensures.on in
+pub offset_bounds-columns-i : goal.offset_bounds-columns-i
+offset_bounds-columns-i c = let l = set_below 48 c.loop-left.left c.lowest-i.result c.loop-left.invariant.0 c.lowest-i.ensures.on in
     omega arith
 
 pub bounds-columns-i : goal.bounds-columns-i

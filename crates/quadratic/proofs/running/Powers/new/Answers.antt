@@ -1,4 +1,4 @@
-use Rattle.std.proofs.Common.{◌≡◌, sym, ◌∙◌, ap₂}
+use Rattle.std.proofs.Common.{sym, ◌∙◌, ap₂}
 use Rattle.quadratic.proofs.running.Powers.new.Goals as goal
 
 pub returns : goal.returns

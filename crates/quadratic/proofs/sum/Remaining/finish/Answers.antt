@@ -1,4 +1,4 @@
-use Rattle.std.proofs.Common.{◌≡◌, ℕ, ◌+◌, ◌*◌, ◌≤◌, sym, ap, ◌∙◌, arith}
+use Rattle.std.proofs.Common.{◌≡◌, sym, ap, ◌∙◌, arith}
 use lib.Count.{ones}
 use Rattle.quadratic.proofs.Eliminate.{ended}
 use Rattle.quadratic.proofs.Lowest.{ones-zero}

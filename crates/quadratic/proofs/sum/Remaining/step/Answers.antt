@@ -13,19 +13,19 @@ even : (odd live a : ℕ) → bit_and odd live ≡ 0 → bit live a ≡ 1 → bi
 even odd live a e on = sym (mul-one (bit odd a)) ∙ ap (λ b. bit odd a * b) (sym on) ∙ sym (bit-and odd live a)
     ∙ ap (λ x. bit x a) e ∙ bit-zero a
 
-pub sum-odd-requires : goal.sum-odd-requires
-sum-odd-requires c =
+pub sum_odd-requires : goal.sum_odd-requires
+sum_odd-requires c =
     let b = bits-both _ _ c.lowest.result c.lowest.ensures.on in
     record { live = b.1; odd = ap (λ x. bit x c.lowest.result) (sym c.odd.ensures) ∙ b.0 }
 
 pub returns-then-odd-ne0 : goal.returns-then-odd-ne0
-returns-then-odd-ne0 c = stepped _ _ _ _ _ _ 1 1 (omega arith) (omega arith) (omega arith) c.sum-odd.ensures
+returns-then-odd-ne0 c = stepped _ _ _ _ _ _ 1 1 (omega arith) (omega arith) (omega arith) c.sum_odd.ensures
 
 pub partners-requires : goal.partners-requires
 partners-requires c = let s = c.args.self.now in set_below 48 s.live c.lowest-a.result s.inside c.lowest-a.ensures.on
 
-pub sum-pair-requires : goal.sum-pair-requires
-sum-pair-requires c =
+pub sum_pair-requires : goal.sum_pair-requires
+sum_pair-requires c =
     let s = c.args.self.now in
     let a = c.lowest-a.result in
     let b = c.lowest-then-partners-ne0.result in
@@ -38,7 +38,7 @@ sum-pair-requires c =
     }
 
 pub returns-then-partners-ne0 : goal.returns-then-partners-ne0
-returns-then-partners-ne0 c = stepped _ _ _ _ _ _ 2 2 (omega arith) (omega arith) (omega arith) c.sum-pair.ensures
+returns-then-partners-ne0 c = stepped _ _ _ _ _ _ 2 2 (omega arith) (omega arith) (omega arith) c.sum_pair.ensures
 
 pub returns-then-linear-ne0 : goal.returns-then-linear-ne0
 returns-then-linear-ne0 c =
@@ -54,15 +54,18 @@ pub turned-self-requires : goal.turned-self-requires
 turned-self-requires c = let s = c.args.self.now in let l =
     set_below 48 s.live c.lowest-a.result s.inside c.lowest-a.ensures.on in omega arith
 
-pub invariant-of-self : goal.invariant-of-self
-invariant-of-self c =
+pub invariant_of-self : goal.invariant_of-self
+invariant_of-self c =
     let s = c.args.self.now in
     let a = c.lowest-a.result in
     let l = set_below 48 s.live a s.inside c.lowest-a.ensures.on in
     let e = c.turned-self.ensures in
     let n = ap (λ x. ones x + 1) e ∙ ones-drop s.live a s.inside c.lowest-a.ensures.on in
     let few : s.power + 2 + 2 * ones c.turned-self.result ≤ 96 = omega (arith, n, s.few) in
-    (rw e (xor_lt 48 s.live (2 ^ a) s.inside (pow-lt l)), (few, tt))
+    record {
+      inside = rw e (xor_lt 48 s.live (2 ^ a) s.inside (pow-lt l));
+      few = few;
+    }
 
 pub returns : goal.returns
 returns c =

@@ -5,7 +5,6 @@ use lib.Pow.{pow-lt}
 use Rattle.quadratic.specs.Bits.{bit}
 use Rattle.quadratic.specs.Quadratic.{coef}
 use Rattle.quadratic.specs.declared.form.QuadraticForm.{QuadraticForm}
-use Rattle.quadratic.specs.declared.sum.Remaining.{Remaining}
 use Rattle.quadratic.proofs.Bitlaws.{bit-lt}
 use Rattle.quadratic.proofs.Eliminate.{pair_left, still-on}
 use Rattle.quadratic.proofs.Lowest.{set_below, ones-drop}
@@ -33,20 +32,26 @@ partners-requires c = let s = c.args.self.now in set_below 48 s.live c.args.a s.
 pub partners-requires-2 : goal.partners-requires-2
 partners-requires-2 c = let s = c.args.self.now in set_below 48 s.live c.args.b s.inside c.requires.lives.1
 
-pub add-parity-requires : goal.add-parity-requires
-add-parity-requires c =
+pub add_parity-requires : goal.add_parity-requires
+add_parity-requires c =
     let f = c.args.self.now.form in
     let q = quarters f c.args.a c.linear-alpha.result c.requires.evens.0 c.linear-alpha.ensures.value in
-    (masked f c.args.b c.partners-2.result c.turned-rest.result c.partners-2.ensures, q)
+    record {
+      mask_bound = masked f c.args.b c.partners-2.result c.turned-rest.result c.partners-2.ensures;
+      times_bound = q;
+    }
 
-pub add-parity-requires-2 : goal.add-parity-requires-2
-add-parity-requires-2 c =
+pub add_parity-requires-2 : goal.add_parity-requires-2
+add_parity-requires-2 c =
     let f = c.args.self.now.form in
     let q = quarters f c.args.b c.linear-beta.result c.requires.evens.1 c.linear-beta.ensures.value in
-    (masked f c.args.a c.partners.result c.turned-rest.result c.partners.ensures, q)
+    record {
+      mask_bound = masked f c.args.a c.partners.result c.turned-rest.result c.partners.ensures;
+      times_bound = q;
+    }
 
-pub add-product-requires : goal.add-product-requires
-add-product-requires c =
+pub add_product-requires : goal.add_product-requires
+add_product-requires c =
     let f = c.args.self.now.form in
     let r = c.turned-rest.result in (
       masked f c.args.a c.partners.result r c.partners.ensures,
@@ -69,19 +74,19 @@ module _ (f : QuadraticForm) (live a b r : ℕ) (inside : live < 2 ^ 48) (on : b
       let second = ones-drop (bit_xor live (2 ^ a)) b between (still-on f live a b inside on on' even even' coupled) in
       omega (arith, first, second, ap ones e)
 
-pub invariant-of-self : goal.invariant-of-self
-invariant-of-self c =
+pub invariant_of-self : goal.invariant_of-self
+invariant_of-self c =
     let s = c.args.self.now in
     let r = c.turned-rest.result in
     let e = c.turned-rest.ensures ∙ ap (λ x. bit_xor x (2 ^ c.args.b)) c.turned.ensures in
     let p = c.requires in
     let n = two-less s.form s.live c.args.a c.args.b r s.inside p.lives.0 p.lives.1
     p.evens.0 p.evens.1 p.coupled e in
-    let few : s.power + 2 + 2 * ones r ≤ 96 = omega (arith, n, s.few) in (
-      low s.form s.live c.args.a c.args.b r s.inside p.lives.0 p.lives.1 p.evens.0
-          p.evens.1 p.coupled e,
-      (few, tt),
-    )
+    let few : s.power + 2 + 2 * ones r ≤ 96 = omega (arith, n, s.few) in record {
+      inside = low s.form s.live c.args.a c.args.b r s.inside p.lives.0 p.lives.1 p.evens.0
+          p.evens.1 p.coupled e;
+      few = few;
+    }
 
 pub returns : goal.returns
 returns c =
@@ -92,11 +97,11 @@ returns c =
     record {
       same = pair_left s.form s.live c.args.a c.args.b s.inside p.lives.0 p.lives.1
           p.evens.0 p.evens.1 p.coupled
-          c.add-phase.new.self c.add-parity.new.self c.add-parity-2.new.self c.add-product.new.self
+          c.add_phase.new.self c.add_parity.new.self c.add_parity-2.new.self c.add_product.new.self
           c.linear-alpha.result c.linear-beta.result
           c.partners.result c.partners-2.result r s.power c.linear-alpha.ensures.value
           c.linear-beta.ensures.value c.partners.ensures c.partners-2.ensures e
-          c.add-phase.ensures c.add-parity.ensures c.add-parity-2.ensures c.add-product.ensures;
+          c.add_phase.ensures c.add_parity.ensures c.add_parity-2.ensures c.add_product.ensures;
       count = two-less s.form s.live c.args.a c.args.b r s.inside p.lives.0 p.lives.1
           p.evens.0 p.evens.1 p.coupled e;
       powers = refl;

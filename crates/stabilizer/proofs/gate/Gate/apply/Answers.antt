@@ -1,7 +1,5 @@
-use Rattle.std.proofs.Common.{◌≡◌, ◌*◌, sym, refl, ap, subst, ap₂}
-use Rattle.quadratic.specs.Bits.{bit, dot}
-use Rattle.stabilizer.specs.Moved.{Placed, Moved}
-use Rattle.stabilizer.specs.declared.gate.Gate.TheVariants.{X, Z, S, SDagger, CNot, CZ}
+use Rattle.std.proofs.Common.{◌*◌, ap, subst, ap₂}
+use Rattle.stabilizer.specs.Moved.{Placed}
 use Rattle.stabilizer.proofs.Gating.{turned-still, turned_rows, bit-of, moved-flip, moved-controlled}
 use Rattle.stabilizer.proofs.gate.Gate.apply.Goals as goal
 
@@ -14,7 +12,7 @@ returns-in-X c =
 pub returns-in-Z : goal.returns-in-Z
 returns-in-Z c =
     let s = c.args.body.now in
-    let h = c.add-parity.ensures in
+    let h = c.add_parity.ensures in
     rw c.in-Z.is (record {
       phases = turned-still s _ _ _ h (λ y. ap (◌*◌ 4)
           (bit-of c.args.a _ c.at.ensures y));
@@ -24,7 +22,7 @@ returns-in-Z c =
 pub returns-in-S : goal.returns-in-S
 returns-in-S c =
     let s = c.args.body.now in
-    let h = c.add-parity-in-S.ensures in
+    let h = c.add_parity-in-S.ensures in
     rw c.in-S.is (record {
       phases = turned-still s _ _ _ h (λ y. ap (◌*◌ 2)
           (bit-of c.args.a _ c.at-in-S.ensures y));
@@ -34,7 +32,7 @@ returns-in-S c =
 pub returns-in-SDagger : goal.returns-in-SDagger
 returns-in-SDagger c =
     let s = c.args.body.now in
-    let h = c.add-parity-in-SDagger.ensures in
+    let h = c.add_parity-in-SDagger.ensures in
     rw c.in-SDagger.is
     (record {
       phases = turned-still s _ _ _ h (λ y. ap (◌*◌ 6)
@@ -45,13 +43,13 @@ returns-in-SDagger c =
 pub returns-in-CNot : goal.returns-in-CNot
 returns-in-CNot c =
     let s = c.args.body.now in
-    rw c.in-CNot.is (moved-controlled s c.controlled-flip.new.self c.args.a c.args.b c.controlled-flip.result
-    (subst (λ g. Placed g c.args.a c.args.b) c.in-CNot.is c.requires) c.controlled-flip.ensures)
+    rw c.in-CNot.is (moved-controlled s c.controlled_flip.new.self c.args.a c.args.b c.controlled_flip.result
+    (subst (λ g. Placed g c.args.a c.args.b) c.in-CNot.is c.requires) c.controlled_flip.ensures)
 
 pub returns-in-CZ : goal.returns-in-CZ
 returns-in-CZ c =
     let s = c.args.body.now in
-    let h = c.add-product.ensures in
+    let h = c.add_product.ensures in
     rw c.in-CZ.is (record {
       phases = turned-still s _ _ _ h (λ y. ap₂ (λ u v. 4 * (u * v)) (bit-of c.args.a _ c.at-in-CZ.ensures y)
           (bit-of c.args.b _ c.at-in-CZ-2.ensures y));

@@ -1,12 +1,11 @@
-use Rattle.std.proofs.Common.{◌≡◌, ℕ, ◌+◌, ◌*◌, ◌%◌, ◌<◌, sym, refl, ap, ◌∙◌, subst, arith}
+use Rattle.std.proofs.Common.{◌≡◌, ◌+◌, ◌*◌, ◌%◌, sym, refl, arith}
 use Rattle.quadratic.proofs.Bitlaws.{digit}
-use Rattle.stabilizer.specs.Projections.{Effected}
 use Rattle.stabilizer.proofs.Projecting.{restricted, rotated, grown}
 use Rattle.stabilizer.proofs.pauli.PauliMasks.project.Goals as goal
 
-pub returns-in-default : goal.returns-in-default
-returns-in-default c =
-    grown c.args.self.now c.args.body.now c.extend.new.self c.extend.result c.requires c.in-default.ensures
+pub returns-in_default : goal.returns-in_default
+returns-in_default c =
+    grown c.args.self.now c.args.body.now c.extend.new.self c.extend.result c.requires c.in_default.ensures
     c.extend.ensures
 
 pub returns-in-0 : goal.returns-in-0
@@ -27,10 +26,10 @@ returns-in-2 c =
     c.in-Some.ensures.1 (sym c.in-2.is) 1 (omega arith) refl c.restrict-in-2.result c.restrict-in-2.new.self
     c.restrict-in-2.ensures)
 
-pub returns-in-default-2 : goal.returns-in-default-2
-returns-in-default-2 c =
+pub returns-in_default-2 : goal.returns-in_default-2
+returns-in_default-2 c =
     let m = c.args.self.now in
     let three : 3 ≡ (m.quarters % 4 + c.in-Some.turns) % 4 = omega arith in
-    rw c.turned-in-default-2.ensures.effect (rotated m c.args.body.now c.in-Some.turns 3 c.in-Some.mask
-    c.in-Some.ensures.1 three 1 7 1 c.turned-in-default-2.new.body refl c.turned-in-default-2.ensures.space
-    (digit (λ d. (7 + 2 * 1 * d) % 8 ≡ (1 + 6 * ((1 + d) * (1 + d))) % 8) refl refl) c.turned-in-default-2.ensures.phases)
+    rw c.turned-in_default-2.ensures.effect (rotated m c.args.body.now c.in-Some.turns 3 c.in-Some.mask
+    c.in-Some.ensures.1 three 1 7 1 c.turned-in_default-2.new.body refl c.turned-in_default-2.ensures.space
+    (digit (λ d. (7 + 2 * 1 * d) % 8 ≡ (1 + 6 * ((1 + d) * (1 + d))) % 8) refl refl) c.turned-in_default-2.ensures.phases)

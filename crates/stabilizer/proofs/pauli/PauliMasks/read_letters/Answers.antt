@@ -1,4 +1,4 @@
-use Rattle.std.proofs.Common.{◌≡◌, ℕ, ◌+◌, ◌-◌, ◌^◌, ◌<◌, length, get_or, drop, Ok, Err, sym, ap, ◌∙◌, subst, arith, length-drop}
+use Rattle.std.proofs.Common.{◌≡◌, ◌+◌, ◌-◌, ◌^◌, ◌<◌, length, get_or, drop, Ok, Err, sym, ap, ◌∙◌, subst, arith, length-drop}
 use Rattle.std.proofs.lemmas.List.{drop_all, drop_more}
 use Rattle.std.proofs.lemmas.Result.{err_from_is_err_and}
 use Rattle.stabilizer.specs.Masks.{MaskedLetters}
@@ -22,14 +22,14 @@ with-requires c =
       quarters = let f = h.few in omega arith;
     }
 
-pub returns-in-err-masks : goal.returns-in-err-masks
-returns-in-err-masks c =
+pub returns-in_err-masks : goal.returns-in_err-masks
+returns-in_err-masks c =
     let xs = c.args.letters.now in
     let i = c.loop-i.i - 1 in
-    let p = err_from_is_err_and c.from-residual.result c.from-residual.ensures.1 in
+    let p = err_from_is_err_and c.from_residual.result c.from_residual.ensures.1 in
     let h : i < length xs = omega arith in
     subst (λ r. MaskedLetters r (lettersOf xs)) (sym (p.1 ∙ ap (λ e. Err e) p.2))
-    (letter-bad xs i (get_or xs i 0) _ _ _ (drop_more xs i 0 h) c.in-err-masks.ensures)
+    (letter-bad xs i (get_or xs i 0) _ _ _ (drop_more xs i 0 h) c.in_err-masks.ensures)
 
 pub loop-i-preserved : goal.loop-i-preserved
 loop-i-preserved c =
@@ -41,5 +41,5 @@ loop-i-preserved c =
       omega arith,
       rw (drop_more xs i 0 h) (letter-more (get_or xs i 0) (drop (i + 1) xs) _ _ _ rest
           (subst (λ k. MaskedLetters (Ok c.loop-i.masks) (lettersOf (drop k xs))) (sym e) c.loop-i.invariant.1)
-          c.in-ok-masks.ensures),
+          c.in_ok-masks.ensures),
     )

@@ -1,4 +1,4 @@
-use Rattle.std.proofs.Common.{◌≡◌, ℕ, ◌^◌, ◌<◌, List, Some, sym, refl, subst, lt_of_lt_of_le, arith, pow_mono}
+use Rattle.std.proofs.Common.{◌≡◌, ℕ, List, Some, sym, refl, subst, lt_of_lt_of_le, arith, pow_mono}
 use Rattle.stabilizer.specs.Calls.{Projected, ProjectedBy, impossible, exhausted, kept}
 use Rattle.stabilizer.specs.Paulis.{Pauli, pauliOf, textNumber}
 use Rattle.stabilizer.specs.declared.state.StabilizerState.{StabilizerState}
@@ -15,16 +15,16 @@ by-text n text P s a s' e p h =
 pub project-requires : goal.project-requires
 project-requires c =
     let s = c.args.self.now in
-    let r = c.in-ok-operator.ensures in
-    let (P, p, h, l) = known s.qubits c.args.text.now c.in-ok-operator.operator r.number r.masks in
+    let r = c.in_ok-operator.ensures in
+    let (P, p, h, l) = known s.qubits c.args.text.now c.in_ok-operator.operator r.number r.masks in
     lt_of_lt_of_le l (pow_mono s.few)
 
 pub returns-in-Unchanged : goal.returns-in-Unchanged
 returns-in-Unchanged c =
     let s = c.args.self.now in
     let text = c.args.text.now in
-    let m = c.in-ok-operator.operator in
-    let r = c.in-ok-operator.ensures in
+    let m = c.in_ok-operator.operator in
+    let r = c.in_ok-operator.ensures in
     let (P, p, h, l) = known s.qubits text m r.number r.masks in
     let b = stays m P s h c.in-Unchanged.ensures.1 in
     by-text s.qubits text P s 0 s r.number p (kept (not-nothing P s b) b)
@@ -33,8 +33,8 @@ pub returns-in-Vanished : goal.returns-in-Vanished
 returns-in-Vanished c =
     let s = c.args.self.now in
     let text = c.args.text.now in
-    let m = c.in-ok-operator.operator in
-    let r = c.in-ok-operator.ensures in
+    let m = c.in_ok-operator.operator in
+    let r = c.in_ok-operator.ensures in
     let (P, p, h, l) = known s.qubits text m r.number r.masks in
     by-text s.qubits text P s 21 s r.number p (impossible (vanishes m P s h c.in-Vanished.ensures.1))
 
@@ -42,30 +42,36 @@ pub returns-then-self-eq-MOST : goal.returns-then-self-eq-MOST
 returns-then-self-eq-MOST c =
     let s = c.args.self.now in
     let text = c.args.text.now in
-    let m = c.in-ok-operator.operator in
-    let r = c.in-ok-operator.ensures in
+    let m = c.in_ok-operator.operator in
+    let r = c.in_ok-operator.ensures in
     let (P, p, h, l) = known s.qubits text m r.number r.masks in
     let t = c.project.new.body in
     let sum = c.in-Changed.ensures in
     by-text s.qubits text P s 22 s r.number p
     (exhausted (not-vanished m P s h l t sum) (not_same m P s h l t sum) c.if-self-eq-MOST.true)
 
-pub invariant-of-self : goal.invariant-of-self
-invariant-of-self c =
+pub invariant_of-self : goal.invariant_of-self
+invariant_of-self c =
     let s = c.args.self.now in
-    let m = c.in-ok-operator.operator in
-    let r = c.in-ok-operator.ensures in
+    let m = c.in_ok-operator.operator in
+    let r = c.in_ok-operator.ensures in
     let (P, p, h, l) = known s.qubits c.args.text.now m r.number r.masks in
     let (a, b) = body_below m P s h l c.project.new.body c.in-Changed.ensures in
     let light = s.light in
     let ne = c.if-self-eq-MOST.false in
-    (s.some, (s.few, (omega arith, (a, (b, tt)))))
+    record {
+      some = s.some;
+      few = s.few;
+      light = omega arith;
+      inside = a;
+      near = b;
+    }
 
 pub returns-else-self-eq-MOST : goal.returns-else-self-eq-MOST
 returns-else-self-eq-MOST c =
     let s = c.args.self.now in
     let text = c.args.text.now in
-    let m = c.in-ok-operator.operator in
-    let r = c.in-ok-operator.ensures in
+    let m = c.in_ok-operator.operator in
+    let r = c.in_ok-operator.ensures in
     let (P, p, h, l) = known s.qubits text m r.number r.masks in
     by-text s.qubits text P s 0 _ r.number p (lowered m P s h l c.project.new.body c.in-Changed.ensures _ refl refl refl)
