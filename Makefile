@@ -1,7 +1,7 @@
 # make list            build the listing program and list a sample archive (ARCHIVE=FILE for another one)
 # make describe        build the describing program and describe a sample archive (ARCHIVE=FILE for another one)
-# make test            prove every crate from nothing, try the must-fail edits, run the programs and tests
-# make edits           try the edits that the gate leaves out: each must be refused
+# make test            prove every crate, try the must-fail edits, run the programs and tests
+# make programs        build all programs: crates/NAME/out/NAME
 # make c-example       build the static library and a C program against it, and run it
 # make python-example  build a shared library from the static one and run a Python program over it
 # make damage          hand the console every truncation and single-bit change of some states and archives
@@ -10,43 +10,46 @@
 RT ?= rt
 PYTHON ?= python3
 ARCHIVE ?= samples/pair.archive
+PROGRAMS = list describe console walk bench
 
-.PHONY: list describe test edits c-example python-example damage fuzz bench clean
+# `rt run` proves a program, builds it as crates/NAME/out/NAME, and runs it.
+build = (cd crates/$(1) && $(RT) run </dev/null >/dev/null)
+
+.PHONY: list describe test programs library c-example python-example damage fuzz bench clean
 
 list:
-	$(RT) check list
-	target/bin/list < $(ARCHIVE)
+	@$(call build,list)
+	@crates/list/out/list < $(ARCHIVE)
 
 describe:
-	$(RT) check describe
-	target/bin/describe < $(ARCHIVE)
+	@$(call build,describe)
+	@crates/describe/out/describe < $(ARCHIVE)
 
 test:
 	./.ci/run
 
-edits:
-	edits/run.sh
+programs:
+	for program in $(PROGRAMS); do $(call build,$$program) || exit 1; done
 
-c-example:
-	$(RT) staticlib host
+library:
+	cd crates/sangyldem && $(RT) lib
+
+c-example: library
 	$(MAKE) -C examples/c RT=$(RT)
-	target/c/overlap
+	build/c/overlap
 
-python-example:
-	$(RT) staticlib host
+python-example: library
 	$(MAKE) -C examples/python RT=$(RT)
 	$(PYTHON) examples/python/overlap.py
 
-damage:
-	$(RT) check console
+damage: programs
 	$(PYTHON) tests/damage.py
 
-fuzz:
-	$(RT) check console list describe
+fuzz: programs
 	$(PYTHON) tests/fuzz.py
 
-bench:
+bench: programs
 	bench/run.sh
 
 clean:
-	rm -rf target
+	rm -rf build crates/*/out

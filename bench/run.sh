@@ -1,14 +1,14 @@
 #!/bin/sh
 # bench/run.sh [ROUNDS]: times the listing, and overlaps and running sums alone, on generated full archives. A benchmark, not a test.
-# Needs a C compiler and GNU date. Programs are built by rt check, so the first run proves them.
+# Needs a C compiler and GNU date. Programs are built by rt run, so the first run proves them.
 set -eu
 cd "$(dirname "$0")/.."
 rounds=${1:-10}
-out=target/bench
+out=build/bench
 mkdir -p $out
 
 build() { # a program's name
-    ${RT:-rt} check "$1" >$out/"$1".log 2>&1 || { cat $out/"$1".log; exit 1; }
+    (cd crates/"$1" && ${RT:-rt} run </dev/null) >$out/"$1".log 2>&1 || { cat $out/"$1".log; exit 1; }
 }
 elapsed() { # an archive, then a command: nanoseconds of one run
     archive=$1
@@ -29,14 +29,14 @@ for kind in full random through common; do
     read -r pairs strings <$out/$kind.counts
     sum=0
     for _ in $(seq "$rounds"); do
-        sum=$((sum + $(elapsed $out/$kind.archive target/bin/list)))
+        sum=$((sum + $(elapsed $out/$kind.archive crates/list/out/list)))
     done
     mean=$((sum / rounds))
     echo "  $kind: $((mean / 1000)) us, $((mean / pairs)) ns per pair, $strings strings added per ring"
 done
 
 # The program `bench`, for times without reading and printing:
-#   target/bin/bench MODE ROUNDS < ARCHIVE     MODE: read, overlap or sum
+#   crates/bench/out/bench MODE ROUNDS < ARCHIVE     MODE: read, overlap or sum
 # reads the archive once; then ROUNDS times, for each pair, does nothing (read), the overlap (overlap), or, for intersections of at
 # most 12 dimensions, the whole running sum in each ring (sum). It prints one line: the number of overlaps or of
 # added strings (all rings together), and a number made from every result.
@@ -45,8 +45,8 @@ if grep -q '^bench:' crates.txt; then
     echo "inside, $rounds rounds:"
     for kind in full random through common; do
         for mode in overlap sum; do
-            idle=$(elapsed $out/$kind.archive target/bin/bench read "$rounds")
-            busy=$(elapsed $out/$kind.archive target/bin/bench $mode "$rounds")
+            idle=$(elapsed $out/$kind.archive crates/bench/out/bench read "$rounds")
+            busy=$(elapsed $out/$kind.archive crates/bench/out/bench $mode "$rounds")
             read -r count _ <$out/answer
             [ "$count" -gt 0 ] || continue
             case $mode in

@@ -3,7 +3,7 @@
 The console gets all lines in one process: commands on random states, damaged bytes, damaged lines, and lines of random bytes. `list` and
 `describe` get random and damaged archives, a process for each. It fails on an exit status other than 0, two minutes without an end, an
 answer that is not the one of model.py and rules.py (or not of its documented shape, where the states are too large for them), and on
-memory that grows with the number of lines. The same seed gives the same input. Needs target/bin/{console,list,describe}.
+memory that grows with the number of lines. The same seed gives the same input. Needs the programs (`make programs`).
 """
 import argparse
 import collections
@@ -19,7 +19,7 @@ import make
 import model
 import rules
 
-BIN = pathlib.Path(__file__).resolve().parents[1] / "target" / "bin"
+CRATES = pathlib.Path(__file__).resolve().parents[1] / "crates"
 BATCH = 1000
 LONGEST = 8000  # bytes of a line
 SLACK = 256  # kilobytes by which the console's memory may differ
@@ -204,7 +204,7 @@ class Console:
     """The console as a process that is asked many lines at a time."""
 
     def __init__(self):
-        self.process = subprocess.Popen([BIN / "console"], stdin=subprocess.PIPE, stdout=subprocess.PIPE)
+        self.process = subprocess.Popen([CRATES / "console" / "out" / "console"], stdin=subprocess.PIPE, stdout=subprocess.PIPE)
 
     def ask(self, lines):
         """The answers to these lines; fewer where the console ended."""
@@ -333,7 +333,7 @@ def is_shaped(output, head, pair):
 def fuzz_archive(program, archive, tally):
     """Hands an archive to `list` or `describe`."""
     tally.asked[program + ": archives"] += 1
-    run = subprocess.run([BIN / program], input=archive, capture_output=True, timeout=PATIENCE)
+    run = subprocess.run([CRATES / program / "out" / program], input=archive, capture_output=True, timeout=PATIENCE)
     output = run.stdout.decode("latin-1")
     try:
         known = model.few(*(state for state, _ in rules.read_archive(archive)))

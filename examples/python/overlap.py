@@ -7,7 +7,7 @@ import ctypes
 import pathlib
 import sys
 
-LIBRARY = pathlib.Path(__file__).resolve().parents[2] / "target" / "python" / "libsangyldem.so"
+LIBRARY = pathlib.Path(__file__).resolve().parents[2] / "build" / "python" / "libsangyldem.so"
 
 
 def load(path=LIBRARY):

@@ -1,4 +1,4 @@
-// The overlap of two states for programs written in C.
+// The overlap of two states given as bytes, for programs in other languages: the crate `sangyldem` hands it to C.
 #![tactic(auto)]
 
 ghost use Rattle.std.specs.Prelude.{◌≡◌, ℕ, ◌<◌, ◌≤◌, length, IfOk, MatchResult, slice_index};
@@ -87,8 +87,7 @@ fn put(answer: &mut [u8], bytes: [u8; 4])
 
 // Writes the overlap of two states, given as bytes, into the first four bytes of the answer, and answers 0; or answers the number of
 // the refusal, and writes nothing.
-#[unsafe(no_mangle)]
-pub extern "C" fn overlap(t: &[u8], s: &[u8], answer: &mut [u8]) -> u8
+pub fn overlap(t: &[u8], s: &[u8], answer: &mut [u8]) -> u8
     ensures number { result ≡ entryNumber t.now s.now (length answer.old) }
     ensures granted { result ≡ 0 → Answered t.now s.now answer.new }
     ensures refused { 0 < result → answer.new ≡ answer.old }
