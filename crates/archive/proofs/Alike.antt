@@ -2,7 +2,7 @@
 use Rattle.std.proofs.Common.{◌≡◌, ℕ, ◌*◌, List, sym, ap, ◌∙◌, subst, ap₂}
 use lib.Count.{ones}
 use Rattle.quadratic.specs.Bits.{bit}
-use Rattle.quadratic.specs.Fields.{linearAt, couplingAt}
+use Rattle.quadratic.specs.Fields.{coefficient_at, coupling_between}
 use Rattle.quadratic.specs.Phase.{SamePhases}
 use Rattle.quadratic.specs.Quadratic.{coef}
 use Rattle.quadratic.specs.declared.phased.PhasedSpace.{PhasedSpace}
@@ -35,10 +35,10 @@ module _ (s t : PhasedSpace) (h : SamePhases s t) where
         shift = sym (shift_same s.space t.space to pivots) ∙ v.shift;
       }
 
-  same-linear : (q : ℕ) → linearAt t q ≡ linearAt s q
+  same-linear : (q : ℕ) → coefficient_at t q ≡ coefficient_at s q
   same-linear q = ap₂ (λ o n. coef o n q) (sym form.odds) (sym form.negs)
 
-  same-coupling : (q r : ℕ) → couplingAt t q r ≡ couplingAt s q r
+  same-coupling : (q r : ℕ) → coupling_between t q r ≡ coupling_between s q r
   same-coupling q r = ap (λ x. 4 * bit x r) (sym (form.rows q))
 
   weighs-of : (b : List ℕ) (p n k : ℕ) → Weighs b p n k s → Weighs b p n k t

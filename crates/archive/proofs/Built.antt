@@ -5,7 +5,7 @@ use lib.Count.{ones}
 use Rattle.std.proofs.lemmas.Nat.{mod_below}
 use Rattle.std.proofs.lemmas.Bool.{cases_lt, cases_eq}
 use Rattle.quadratic.specs.Bits.{bit}
-use Rattle.quadratic.specs.Fields.{linearAt}
+use Rattle.quadratic.specs.Fields.{coefficient_at}
 use Rattle.quadratic.specs.Quadratic.{coef, link}
 use Rattle.quadratic.specs.Building.{Begun, Reshifted}
 use Rattle.quadratic.specs.declared.phased.PhasedSpace.{PhasedSpace}
@@ -13,9 +13,9 @@ use Rattle.quadratic.proofs.Bitlaws.{bit-lt, bit-and, bit-zero, bit-low, bit_pas
 use Rattle.quadratic.proofs.Dots.{by_bits}
 use Rattle.stabilizer.specs.States.{Sound as Parts}
 use Rattle.stabilizer.specs.declared.state.StabilizerState.{StabilizerState}
-use Rattle.archive.specs.Bits.{bitsAt}
+use Rattle.archive.specs.Bits.{bits_from}
 use Rattle.archive.specs.Layout.{size_at, rank_at, row_at, lead}
-use Rattle.archive.specs.Held.{Sound, Spans, Weighs, Holds, shiftPlace}
+use Rattle.archive.specs.Held.{Sound, Spans, Weighs, Holds, shift_place}
 use Rattle.archive.specs.Reading.{Raised, OnPivots, LinearUpTo, CouplingUpTo}
 use Rattle.archive.proofs.Laws.{bits_below}
 use Rattle.archive.proofs.Coefficients.{value-one, value-two, coef-low, link-low}
@@ -27,8 +27,8 @@ pub drop-same : (q x : ℕ) → x < 8 → (q + x) % 8 ≡ q → x ≡ 0
 drop-same q x h e = omega arith
 
 module _ (s : PhasedSpace) (begun : Begun s s.form.phase) where
-  no-linear : (k : ℕ) → k < 48 → linearAt s k ≡ 0
-  no-linear k l = drop-same s.form.phase (linearAt s k) (coef-low s.form k) (sym (value-one s.form k l) ∙ begun.value (2 ^ k))
+  no-linear : (k : ℕ) → k < 48 → coefficient_at s k ≡ 0
+  no-linear k l = drop-same s.form.phase (coefficient_at s k) (coef-low s.form k) (sym (value-one s.form k l) ∙ begun.value (2 ^ k))
 
   no-link : (k b : ℕ) → k < 48 → b < k → link s.form.coupling k b ≡ 0
   no-link k b l h =
@@ -45,10 +45,10 @@ module _ (s : PhasedSpace) (begun : Begun s s.form.phase) where
 -- the shift
 module _ (b : List ℕ) (p n k : ℕ) (good : Sound b p n k) (s : PhasedSpace) (w : Raised b p n k s) where
   abbrev h : ℕ
-  h = bitsAt b (shiftPlace p n k) n
+  h = bits_from b (shift_place p n k) n
 
   shift-low : h < 2 ^ 48
-  shift-low = let l = bits_below b (shiftPlace p n k) n in let m : 2 ^ n ≤ 2 ^ 48 = pow_mono good.few in omega arith
+  shift-low = let l = bits_below b (shift_place p n k) n in let m : 2 ^ n ≤ 2 ^ 48 = pow_mono good.few in omega arith
 
   shift-off : bit_and h s.space.pivots ≡ 0
   shift-off = by_bits (bit_and h s.space.pivots) 0 (λ q. bit-and h s.space.pivots q ∙ none q ∙ sym (bit-zero q)) where
@@ -118,7 +118,7 @@ module _ (b : List ℕ) (p n k : ℕ) (good : Sound b p n k) (s₀ : PhasedSpace
           ∙ no-link s₀ blank x y (lead-48 i (omega arith)) o;
     }
 
-    pub weighed : (s₃ : PhasedSpace) → CouplingUpTo b p n k k s₂ s₃ → s₀.form.phase ≡ bitsAt b (p + 25) 3 → Weighs b p n k s₃
+    pub weighed : (s₃ : PhasedSpace) → CouplingUpTo b p n k k s₂ s₃ → s₀.form.phase ≡ bits_from b (p + 25) 3 → Weighs b p n k s₃
     weighed s₃ v e = record {
       phase = v.same.phase ∙ w.phase ∙ ap (λ f. f.phase) same ∙ e;
       linear = λ a l. v.same.linear (lead (row_at b p n a)) (lead-48 a l) ∙ w.done a l;
@@ -140,17 +140,17 @@ below-bits x n h = rw (by_bits x (x % 2 ^ n) same) (mod_below x (2 ^ n) (pow_pos
   ]
 
 -- the parts make a state
-pub parts-sound : (b : List ℕ) (p n k l : ℕ) (s : PhasedSpace) → Sound b p n k → l ≡ bitsAt b (p + 12) 13 → Spans b p n k s → Parts n l s
+pub parts-sound : (b : List ℕ) (p n k l : ℕ) (s : PhasedSpace) → Sound b p n k → l ≡ bits_from b (p + 12) 13 → Spans b p n k s → Parts n l s
 parts-sound b p n k l s good e w = record {
   some = good.some;
   few = good.few;
   light = rw e good.light;
   inside = below-bits s.space.pivots n (λ q o. let f = w.pivots q o in rw f.2 (row-lead b p n k good f.0 f.1));
-  near = rw w.shift (bits_below b (shiftPlace p n k) n);
+  near = rw w.shift (bits_below b (shift_place p n k) n);
 }
 
 -- the state that the parts make stands in the bits
-pub held : (b : List ℕ) (p n k l : ℕ) (t : PhasedSpace) (s : StabilizerState) → n ≡ size_at b p → k ≡ rank_at b p → l ≡ bitsAt b (p + 12) 13
+pub held : (b : List ℕ) (p n k l : ℕ) (t : PhasedSpace) (s : StabilizerState) → n ≡ size_at b p → k ≡ rank_at b p → l ≡ bits_from b (p + 12) 13
     → Spans b p n k t → Weighs b p n k t → s.qubits ≡ n → s.loss ≡ l → s.body ≡ t → Holds b p s
 held b p n k l t s en ek el w v eq es et = record {
   qubits = eq ∙ en;

@@ -3,7 +3,7 @@ use Rattle.std.proofs.Common.{◌≡◌, ℕ, zero, suc, ◌+◌, ◌*◌, ◌/�
 use lib.Pow.{pow-lt}
 use Rattle.std.proofs.lemmas.Bool.{cases_lt, cases_eq}
 use Rattle.quadratic.specs.Bits.{bit, inner}
-use Rattle.quadratic.specs.Fields.{linearAt}
+use Rattle.quadratic.specs.Fields.{coefficient_at}
 use Rattle.quadratic.specs.Quadratic.{quad, coef, link}
 use Rattle.quadratic.specs.Value.{value_at}
 use Rattle.quadratic.specs.Building.{LinearAdded, Coupled}
@@ -93,19 +93,19 @@ module _ (s s' : PhasedSpace) (space : s'.space ≡ s.space) (T : ℕ → ℕ)
       sym (value-zero s'.form) ∙ step 0 ∙ ap₂ (λ x y. (x + y) % 8) (value-zero s.form) none
       ∙ ap (λ x. x % 8) (add-zero s.form.phase) ∙ mod-eq_of_lt s.form.phased
 
-  more-linear : (k : ℕ) → k < 48 → linearAt s' k ≡ (linearAt s k + T (2 ^ k)) % 8
+  more-linear : (k : ℕ) → k < 48 → coefficient_at s' k ≡ (coefficient_at s k + T (2 ^ k)) % 8
   more-linear k l =
-      drop8 s.form.phase (linearAt s' k) (linearAt s k) (T (2 ^ k)) (coef-low s'.form k)
-      (ap (λ q. (q + linearAt s' k) % 8) (sym same-phase) ∙ sym (value-one s'.form k l) ∙ step (2 ^ k)
+      drop8 s.form.phase (coefficient_at s' k) (coefficient_at s k) (T (2 ^ k)) (coef-low s'.form k)
+      (ap (λ q. (q + coefficient_at s' k) % 8) (sym same-phase) ∙ sym (value-one s'.form k l) ∙ step (2 ^ k)
       ∙ ap (λ x. (x + T (2 ^ k)) % 8) (value-one s.form k l))
 
   more-coupling : (W : ℕ → ℕ → ℕ) → ((k b : ℕ) → b < k → T (2 ^ k + 2 ^ b) ≡ T (2 ^ k) + T (2 ^ b) + 4 * W k b)
       → (k b : ℕ) → k < 48 → b < k → link s'.form.coupling k b ≡ (link s.form.coupling k b + W k b) % 2
   more-coupling W both k b l h =
-      drop-pair s.form.phase (linearAt s b) (linearAt s k) (linearAt s' b) (linearAt s' k) (link s.form.coupling k b)
+      drop-pair s.form.phase (coefficient_at s b) (coefficient_at s k) (coefficient_at s' b) (coefficient_at s' k) (link s.form.coupling k b)
       (link s'.form.coupling k b) (T (2 ^ b)) (T (2 ^ k)) (W k b)
       (link-low s'.form k b) (more-linear b (omega arith)) (more-linear k l)
-      (ap (λ q. (q + linearAt s' b + (linearAt s' k + 4 * link s'.form.coupling k b)) % 8) (sym same-phase)
+      (ap (λ q. (q + coefficient_at s' b + (coefficient_at s' k + 4 * link s'.form.coupling k b)) % 8) (sym same-phase)
       ∙ sym (value-two s'.form k b l h) ∙ step (2 ^ k + 2 ^ b) ∙ ap₂ (λ x y. (x + y) % 8) (value-two s.form k b l h) (both k b h))
 
   pub grown : (W : ℕ → ℕ → ℕ) → ((k b : ℕ) → b < k → T (2 ^ k + 2 ^ b) ≡ T (2 ^ k) + T (2 ^ b) + 4 * W k b) → Grown s s' (λ k. T (2 ^ k)) W
@@ -165,7 +165,7 @@ coupling-grown s s' p q less h =
     record {
       space = g.space;
       phase = g.phase;
-      linear = λ k l. g.linear k l ∙ ap (λ x. (linearAt s k + 4 * x) % 8) (apart-powers k p q less);
+      linear = λ k l. g.linear k l ∙ ap (λ x. (coefficient_at s k + 4 * x) % 8) (apart-powers k p q less);
       coupling = λ k b l i. g.coupling k b l i
           ∙ ap (λ x. (link s.form.coupling k b + x) % 2) (sym (one-mul (bit (2 ^ k) p * bit (2 ^ b) q)));
     }
@@ -175,7 +175,7 @@ pub nothing-grown : (s s' : PhasedSpace) (p q : ℕ) → s' ≡ s → CouplingGr
 nothing-grown s s' p q e = record {
   space = ap (λ x. x.space) e;
   phase = ap (λ x. x.form.phase) e;
-  linear = λ k l. ap (λ x. linearAt x k) e ∙ sym (ap (λ x. x % 8) (add-zero (linearAt s k)) ∙ mod-eq_of_lt (coef-low s.form k));
+  linear = λ k l. ap (λ x. coefficient_at x k) e ∙ sym (ap (λ x. x % 8) (add-zero (coefficient_at s k)) ∙ mod-eq_of_lt (coef-low s.form k));
   coupling = λ k b l i. ap (λ x. link x.form.coupling k b) e
       ∙ sym (ap (λ x. (link s.form.coupling k b + x) % 2) (zero-mul (bit (2 ^ k) p * bit (2 ^ b) q))
       ∙ ap (λ x. x % 2) (add-zero (link s.form.coupling k b)) ∙ mod-eq_of_lt (link-low s.form k b));

@@ -1,17 +1,17 @@
 -- Bits that a part of the writing leaves as they are.
 use Rattle.std.proofs.Common.{◌≡◌, ℕ, ◌+◌, ◌*◌, ◌<◌, ◌≤◌, List, length, get_or, set, sym, ◌∙◌, subst, mul-le-mul_right, add-mul, one-mul, arith, get_or-set_other, get_or-set_same, below_more}
-use Rattle.archive.specs.Bits.{bit_at, bitsAt, Framed}
+use Rattle.archive.specs.Bits.{bit_at, bits_from, Framed}
 use Rattle.archive.proofs.Laws.{bits-same}
 
 -- the bits below a place are the same
 abbrev pub Agree : List ℕ → List ℕ → ℕ → Type 0
 Agree b b' to = (q : ℕ) → q < to → bit_at b' q ≡ bit_at b q
 
-pub keep : (b b' : List ℕ) (to q w : ℕ) → Agree b b' to → q + w ≤ to → bitsAt b' q w ≡ bitsAt b q w
+pub keep : (b b' : List ℕ) (to q w : ℕ) → Agree b b' to → q + w ≤ to → bits_from b' q w ≡ bits_from b q w
 keep b b' to q w f h = bits-same b' b q w (λ j l. f (q + j) (omega arith))
 
 -- a field before what is written
-pub keep-before : (b b' : List ℕ) (from to q w : ℕ) → Framed b b' from to → q + w ≤ from → bitsAt b' q w ≡ bitsAt b q w
+pub keep-before : (b b' : List ℕ) (from to q w : ℕ) → Framed b b' from to → q + w ≤ from → bits_from b' q w ≡ bits_from b q w
 keep-before b b' from to q w f h = keep b b' from q w f.0 h
 
 -- one part of the writing after another

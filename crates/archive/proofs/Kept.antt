@@ -1,10 +1,10 @@
 -- Fields that stand in bits that are the same in another run of bytes.
 use Rattle.std.proofs.Common.{◌≡◌, ℕ, ◌+◌, ◌*◌, ◌<◌, ◌≤◌, List, get_or, ap, ◌∙◌, arith}
-use Rattle.quadratic.specs.Fields.{linearAt}
+use Rattle.quadratic.specs.Fields.{coefficient_at}
 use Rattle.quadratic.specs.declared.phased.PhasedSpace.{PhasedSpace}
-use Rattle.archive.specs.Bits.{bitsAt}
-use Rattle.archive.specs.Layout.{bitCount}
-use Rattle.archive.specs.Held.{linearPlace, couplingPlace}
+use Rattle.archive.specs.Bits.{bits_from}
+use Rattle.archive.specs.Layout.{bits_before_fill}
+use Rattle.archive.specs.Held.{linear_place, place_of_coupling}
 use Rattle.archive.specs.Writes.{HeaderPut, RowsPut, FormPut}
 use Rattle.archive.proofs.Frames.{Agree, keep, field-within}
 use Rattle.archive.proofs.Pairs.{pairs-within}
@@ -25,13 +25,13 @@ module _ (b b' : List ℕ) (to : ℕ) (same : Agree b b' to) (n k : ℕ) where
       shift = keep b b' to (28 + k * n) n same (omega arith) ∙ r.shift;
     }
 
-    pub linear-kept : linearPlace 0 n k k ≤ to → ((a : ℕ) → a < k → 2 * bitsAt b (linearPlace 0 n k a) 2 ≡ linearAt s (get_or leads a 0))
-        → (a : ℕ) → a < k → 2 * bitsAt b' (linearPlace 0 n k a) 2 ≡ linearAt s (get_or leads a 0)
-    linear-kept l f a i = ap (λ t. 2 * t) (keep b b' to (linearPlace 0 n k a) 2 same (omega arith)) ∙ f a i
+    pub linear-kept : linear_place 0 n k k ≤ to → ((a : ℕ) → a < k → 2 * bits_from b (linear_place 0 n k a) 2 ≡ coefficient_at s (get_or leads a 0))
+        → (a : ℕ) → a < k → 2 * bits_from b' (linear_place 0 n k a) 2 ≡ coefficient_at s (get_or leads a 0)
+    linear-kept l f a i = ap (λ t. 2 * t) (keep b b' to (linear_place 0 n k a) 2 same (omega arith)) ∙ f a i
 
-    pub form-kept : bitCount n k ≤ to → FormPut b n k leads s → FormPut b' n k leads s
+    pub form-kept : bits_before_fill n k ≤ to → FormPut b n k leads s → FormPut b' n k leads s
     form-kept l f = record {
       linear = linear-kept (omega arith) f.linear;
-      coupling = λ a c i o. let w = pairs-within k a c i o in keep b b' to (couplingPlace 0 n k a c) 1 same (omega arith)
+      coupling = λ a c i o. let w = pairs-within k a c i o in keep b b' to (place_of_coupling 0 n k a c) 1 same (omega arith)
           ∙ f.coupling a c i o;
     }

@@ -4,7 +4,7 @@ use lib.Count.{leading_top}
 use Rattle.std.proofs.lemmas.Bool.{cases_lt, cases_eq, and_parts, ltb-true, eqb-true}
 use Rattle.quadratic.specs.Bits.{bit}
 use Rattle.quadratic.proofs.Bitlaws.{bit_past, bit-top}
-use Rattle.archive.specs.Layout.{row_at, lead, descends, apart, offLeads}
+use Rattle.archive.specs.Layout.{row_at, lead, descends, apart, off_leads}
 use Rattle.archive.specs.Held.{Sound}
 use Rattle.archive.proofs.Laws.{bits_below}
 
@@ -56,11 +56,11 @@ apart-at b p n t (suc a) e j l =
       | inr there ↦ apart-at b p n t a q.1 j (omega arith)
     ]
 
-pub off_at : (b : List ℕ) (p n v a : ℕ) → offLeads b p n v a ≡ true → (j : ℕ) → j < a → bit v (lead (row_at b p n j)) ≡ 0
+pub off_at : (b : List ℕ) (p n v a : ℕ) → off_leads b p n v a ≡ true → (j : ℕ) → j < a → bit v (lead (row_at b p n j)) ≡ 0
 unfolding bit
 off_at b p n v zero e j l = absurd (omega arith)
 off_at b p n v (suc a) e j l =
-    let q = and_parts (eqb (v / 2 ^ lead (row_at b p n a) % 2) 0) (offLeads b p n v a) e in
+    let q = and_parts (eqb (v / 2 ^ lead (row_at b p n a) % 2) 0) (off_leads b p n v a) e in
     elim (cases_eq j a) [
       | inl here ↦ ap (λ i. v / 2 ^ lead (row_at b p n i) % 2) here ∙ eqb-true _ 0 q.0
       | inr there ↦ off_at b p n v a q.1 j (omega arith)

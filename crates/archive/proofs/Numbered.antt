@@ -4,14 +4,14 @@ use native.Mathlib.Decide.{ℕ_discrete}
 use lib.Count.{ones}
 use Rattle.quadratic.specs.Bits.{bit}
 use Rattle.quadratic.specs.Echelon.{row}
-use Rattle.quadratic.specs.Fields.{linearAt, couplingAt, found, foundBoth, pivotOf}
+use Rattle.quadratic.specs.Fields.{coefficient_at, coupling_between, found, found_both, row_pivot}
 use Rattle.quadratic.specs.Numbering.{place}
 use Rattle.quadratic.proofs.Lowest.{set_below}
 use Rattle.quadratic.proofs.Numbering.{place_here, place-passed, place-off}
 use Rattle.stabilizer.specs.declared.state.StabilizerState.{StabilizerState}
-use Rattle.archive.specs.Bits.{bitsAt}
+use Rattle.archive.specs.Bits.{bits_from}
 use Rattle.archive.specs.Held.{Sound, Spans, Holds}
-use Rattle.archive.specs.Layout.{row_at, lead, bitCount, padding, aloneFault}
+use Rattle.archive.specs.Layout.{row_at, lead, bits_before_fill, padding, alone_fault}
 use Rattle.archive.specs.Writes.{LaidOut}
 use Rattle.archive.proofs.Leads.{order}
 use Rattle.archive.proofs.OneRun.{good-at, spans-at, weighs-at, length_at}
@@ -77,7 +77,7 @@ place_of (suc n) mask k f h (suc a) l = elim (ℕ_discrete (bit mask n) 1) [
 
 -- ---- the layout of a state that stands in a run of bytes
 
-module _ (s : StabilizerState) (b : List ℕ) (e : aloneFault b ≡ None) (h : Holds b 0 s) where
+module _ (s : StabilizerState) (b : List ℕ) (e : alone_fault b ≡ None) (h : Holds b 0 s) where
   abbrev n : ℕ
   n = s.qubits
 
@@ -103,7 +103,7 @@ module _ (s : StabilizerState) (b : List ℕ) (e : aloneFault b ≡ None) (h : H
         all = λ q l o. spans.pivots q o;
       }
 
-  pivot : (a : ℕ) → a < k → pivotOf s.body (suc a) ≡ Some (at a)
+  pivot : (a : ℕ) → a < k → row_pivot s.body (suc a) ≡ Some (at a)
   pivot = place_of 48 s.body.space.pivots k at numbers
 
   pub laid_out : LaidOut s b
@@ -116,9 +116,9 @@ module _ (s : StabilizerState) (b : List ℕ) (e : aloneFault b ≡ None) (h : H
         phase = sym h.weighs.phase;
         rows = λ a l. ap (λ o. found o (row s.body.space.rows)) (pivot a l) ∙ ap Some (spans.rows a l);
         shift = sym spans.shift;
-        linear = λ a l. ap (λ o. found o (linearAt s.body)) (pivot a l) ∙ ap Some (weighs.linear a l);
-        coupling = λ a c m l. ap₂ (λ o p. foundBoth o p (couplingAt s.body)) (pivot a (omega arith)) (pivot c l)
+        linear = λ a l. ap (λ o. found o (coefficient_at s.body)) (pivot a l) ∙ ap Some (weighs.linear a l);
+        coupling = λ a c m l. ap₂ (λ o p. found_both o p (coupling_between s.body)) (pivot a (omega arith)) (pivot c l)
             ∙ ap Some (weighs.coupling a c m l);
-        fill = ap (λ t. bitsAt b t (padding t)) (sym (zero-add (bitCount n k))) ∙ good.fill;
+        fill = ap (λ t. bits_from b t (padding t)) (sym (zero-add (bits_before_fill n k))) ∙ good.fill;
         long = length_at b s e h;
       }

@@ -3,12 +3,12 @@ use Rattle.std.proofs.Common.{◌≡◌, ℕ, zero, suc, ◌+◌, ◌-◌, ◌*�
 use lib.Count.{ones}
 use Rattle.std.proofs.lemmas.Bool.{cases_lt, cases_eq}
 use Rattle.quadratic.specs.Echelon.{row}
-use Rattle.quadratic.specs.Fields.{linearAt, couplingAt}
+use Rattle.quadratic.specs.Fields.{coefficient_at, coupling_between}
 use Rattle.quadratic.specs.declared.phased.PhasedSpace.{PhasedSpace}
 use Rattle.stabilizer.specs.declared.state.StabilizerState.{StabilizerState}
-use Rattle.archive.specs.Bits.{bitsAt}
-use Rattle.archive.specs.Layout.{row_at, lead, size_at, bitCount, padded, padding, pairs, aloneFault}
-use Rattle.archive.specs.Held.{Sound, Spans, Weighs, Holds, linearPlace, couplingPlace, pairsBefore}
+use Rattle.archive.specs.Bits.{bits_from}
+use Rattle.archive.specs.Layout.{row_at, lead, size_at, bits_before_fill, padded, padding, pairs, alone_fault}
+use Rattle.archive.specs.Held.{Sound, Spans, Weighs, Holds, linear_place, place_of_coupling, pairs_before}
 use Rattle.archive.specs.Writes.{length_of, RunOf}
 use Rattle.archive.proofs.Alone.{alone-end}
 use Rattle.archive.proofs.Laws.{bits-split, bits_none, bytes_same}
@@ -48,9 +48,9 @@ module _ (f g : ℕ → ℕ) (k : ℕ) (down : (a : ℕ) → a < k → (c : ℕ)
 
 -- the bits of two runs agree up to a place
 abbrev Same : List ℕ → List ℕ → ℕ → Type 0
-Same b d q = bitsAt b 0 q ≡ bitsAt d 0 q
+Same b d q = bits_from b 0 q ≡ bits_from d 0 q
 
-further : (b d : List ℕ) (p w : ℕ) → Same b d p → bitsAt b p w ≡ bitsAt d p w → Same b d (p + w)
+further : (b d : List ℕ) (p w : ℕ) → Same b d p → bits_from b p w ≡ bits_from d p w → Same b d (p + w)
 further b d p w e f =
     simp zero-add at (bits-split b 0 p w) ∙ ap₂ (λ x y. x * 2 ^ w + y) e f ∙ sym (simp zero-add at (bits-split d 0 p w))
 
@@ -74,52 +74,52 @@ module _ (b d : List ℕ) (n k : ℕ) (good : Sound b 0 n k) (fine : Sound d 0 n
   shift_same : Same b d 28 → Same b d (28 + k * n + n)
   shift_same e = further b d (28 + k * n) n (rows_same e k (omega arith)) (sym v.shift ∙ w.shift)
 
-  linear-same : Same b d 28 → (a : ℕ) → a ≤ k → Same b d (linearPlace 0 n k a)
-  linear-same e zero h = let at : linearPlace 0 n k 0 ≡ 28 + k * n + n = omega arith in rw at (shift_same e)
+  linear-same : Same b d 28 → (a : ℕ) → a ≤ k → Same b d (linear_place 0 n k a)
+  linear-same e zero h = let at : linear_place 0 n k 0 ≡ 28 + k * n + n = omega arith in rw at (shift_same e)
   linear-same e (suc a) h =
-      let at : linearPlace 0 n k (suc a) ≡ linearPlace 0 n k a + 2 = omega arith in
-      rw at (further b d (linearPlace 0 n k a) 2 (linear-same e a (omega arith))
-      (half _ _ (sym (x.linear a h) ∙ ap (linearAt s) (same-lead a h) ∙ y.linear a h)))
+      let at : linear_place 0 n k (suc a) ≡ linear_place 0 n k a + 2 = omega arith in
+      rw at (further b d (linear_place 0 n k a) 2 (linear-same e a (omega arith))
+      (half _ _ (sym (x.linear a h) ∙ ap (coefficient_at s) (same-lead a h) ∙ y.linear a h)))
     where
       half : (i j : ℕ) → 2 * i ≡ 2 * j → i ≡ j
       half i j e = omega arith
 
   -- the couplings of row a with the next m rows
-  row_same : (a : ℕ) → a < k → Same b d (linearPlace 0 n k k + pairsBefore k a) → (m : ℕ) → m ≤ k - suc a
-      → Same b d (linearPlace 0 n k k + pairsBefore k a + m)
-  row_same a l e zero h = rw (add-zero (linearPlace 0 n k k + pairsBefore k a)) e
+  row_same : (a : ℕ) → a < k → Same b d (linear_place 0 n k k + pairs_before k a) → (m : ℕ) → m ≤ k - suc a
+      → Same b d (linear_place 0 n k k + pairs_before k a + m)
+  row_same a l e zero h = rw (add-zero (linear_place 0 n k k + pairs_before k a)) e
   row_same a l e (suc m) h =
       let c = suc a + m in
       let gap : c - suc a ≡ m = omega arith in
-      let q = linearPlace 0 n k k + pairsBefore k a + m in
-      let at : linearPlace 0 n k k + pairsBefore k a + suc m ≡ q + 1 = omega arith in
-      let place : couplingPlace 0 n k a c ≡ q = omega arith in
-      let field : bitsAt b (couplingPlace 0 n k a c) 1 ≡ bitsAt d (couplingPlace 0 n k a c) 1 =
-      quarter _ _ (sym (x.coupling a c (omega arith) (omega arith)) ∙ ap₂ (couplingAt s) (same-lead a l) (same-lead c (omega arith))
+      let q = linear_place 0 n k k + pairs_before k a + m in
+      let at : linear_place 0 n k k + pairs_before k a + suc m ≡ q + 1 = omega arith in
+      let place : place_of_coupling 0 n k a c ≡ q = omega arith in
+      let field : bits_from b (place_of_coupling 0 n k a c) 1 ≡ bits_from d (place_of_coupling 0 n k a c) 1 =
+      quarter _ _ (sym (x.coupling a c (omega arith) (omega arith)) ∙ ap₂ (coupling_between s) (same-lead a l) (same-lead c (omega arith))
       ∙ y.coupling a c (omega arith) (omega arith)) in
-      rw at (further b d q 1 (row_same a l e m (omega arith)) (ap (λ t. bitsAt b t 1) (sym place) ∙ field ∙ ap (λ t. bitsAt d t 1) place))
+      rw at (further b d q 1 (row_same a l e m (omega arith)) (ap (λ t. bits_from b t 1) (sym place) ∙ field ∙ ap (λ t. bits_from d t 1) place))
     where
       quarter : (i j : ℕ) → 4 * i ≡ 4 * j → i ≡ j
       quarter i j e = omega arith
 
-  couplings-same : Same b d 28 → (a : ℕ) → a ≤ k → Same b d (linearPlace 0 n k k + pairsBefore k a)
-  couplings-same e zero h = rw (add-zero (linearPlace 0 n k k)) (linear-same e k (omega arith))
+  couplings-same : Same b d 28 → (a : ℕ) → a ≤ k → Same b d (linear_place 0 n k k + pairs_before k a)
+  couplings-same e zero h = rw (add-zero (linear_place 0 n k k)) (linear-same e k (omega arith))
   couplings-same e (suc a) h =
-      let at : linearPlace 0 n k k + pairsBefore k (suc a) ≡ linearPlace 0 n k k + pairsBefore k a + (k - suc a) = omega arith in
+      let at : linear_place 0 n k k + pairs_before k (suc a) ≡ linear_place 0 n k k + pairs_before k a + (k - suc a) = omega arith in
       rw at (row_same a h (couplings-same e a (omega arith)) (k - suc a) (omega arith))
 
-  whole_same : Same b d 28 → Same b d (padded (bitCount n k))
+  whole_same : Same b d 28 → Same b d (padded (bits_before_fill n k))
   whole_same e =
       let z : k - k ≡ 0 = omega arith in
       let s = ap pairs z in
       let all = pairs-split k k (omega arith) in
-      let at : linearPlace 0 n k k + pairsBefore k k ≡ bitCount n k = omega arith in
-      let here = zero-add (bitCount n k) in
-      let zeros = ap (λ t. bitsAt b t (padding t)) (sym here) ∙ good.fill ∙ sym fine.fill ∙ ap (λ t. bitsAt d t (padding t)) here in
-      further b d (bitCount n k) (padding (bitCount n k)) (subst (Same b d) at (couplings-same e k (omega arith))) zeros
+      let at : linear_place 0 n k k + pairs_before k k ≡ bits_before_fill n k = omega arith in
+      let here = zero-add (bits_before_fill n k) in
+      let zeros = ap (λ t. bits_from b t (padding t)) (sym here) ∙ good.fill ∙ sym fine.fill ∙ ap (λ t. bits_from d t (padding t)) here in
+      further b d (bits_before_fill n k) (padding (bits_before_fill n k)) (subst (Same b d) at (couplings-same e k (omega arith))) zeros
 
 -- the fields by the numbers of the state
-module _ (b : List ℕ) (s : StabilizerState) (e : aloneFault b ≡ None) (h : Holds b 0 s) where
+module _ (b : List ℕ) (s : StabilizerState) (e : alone_fault b ≡ None) (h : Holds b 0 s) where
   abbrev n : ℕ
   n = s.qubits
 
@@ -137,8 +137,8 @@ module _ (b : List ℕ) (s : StabilizerState) (e : aloneFault b ≡ None) (h : H
   weighs-at = subst (λ m. Weighs b 0 m k s.body) (sym h.qubits)
       (subst (λ j. Weighs b 0 (size_at b 0) j s.body) (sym h.spans.count) h.weighs)
 
-  pub length_at : 8 * length b ≡ padded (bitCount n k)
-  length_at = (alone-end b e).1 ∙ end_is b 0 n k h.qubits h.spans.count ∙ ap padded (zero-add (bitCount n k))
+  pub length_at : 8 * length b ≡ padded (bits_before_fill n k)
+  length_at = (alone-end b e).1 ∙ end_is b 0 n k h.qubits h.spans.count ∙ ap padded (zero-add (bits_before_fill n k))
 
 -- two runs of bytes that hold the same state are the same
 pub one-run : (s : StabilizerState) (b d : List ℕ) → RunOf s b → RunOf s d → b ≡ d
@@ -160,7 +160,7 @@ one-run s b d x y =
     eighth : (i j : ℕ) → 8 * i ≡ 8 * j → i ≡ j
     eighth i j e = omega arith
 
-pub length-of : (b : List ℕ) (s : StabilizerState) → aloneFault b ≡ None → Holds b 0 s → length b ≡ length_of s
+pub length-of : (b : List ℕ) (s : StabilizerState) → alone_fault b ≡ None → Holds b 0 s → length b ≡ length_of s
 length-of b s e h = eighth (length b) _ (length_at b s e h) where
   eighth : (i j : ℕ) → 8 * i ≡ j → i ≡ j / 8
   eighth i j e = omega arith

@@ -4,7 +4,7 @@ use lib.Bits.{bit_and}
 use Rattle.std.proofs.lemmas.Bool.{cases_lt, cases_eq}
 use Rattle.quadratic.specs.Bits.{bit, inner}
 use Rattle.quadratic.specs.Echelon.{row}
-use Rattle.quadratic.specs.Fields.{linearAt}
+use Rattle.quadratic.specs.Fields.{coefficient_at}
 use Rattle.quadratic.specs.Quadratic.{quad, coef, link}
 use Rattle.quadratic.specs.Value.{value_at}
 use Rattle.quadratic.specs.declared.phased.PhasedSpace.{PhasedSpace}
@@ -16,7 +16,7 @@ use Rattle.quadratic.proofs.Same.{same-phases}
 use Rattle.stabilizer.specs.States.{SameState}
 use Rattle.stabilizer.specs.declared.state.StabilizerState.{StabilizerState}
 use Rattle.stabilizer.proofs.Same.{same-state}
-use Rattle.archive.specs.Layout.{row_at, lead, stateFault}
+use Rattle.archive.specs.Layout.{row_at, lead, state_fault}
 use Rattle.archive.specs.Held.{Sound, Spans, Weighs, Holds}
 use Rattle.archive.proofs.Built.{drop-same}
 use Rattle.archive.proofs.Coefficients.{value-zero, value-one, value-two, coef-low, link-low, bit-both}
@@ -38,9 +38,9 @@ module _ (s : PhasedSpace) where
       | inr ne ↦ ap (λ x. x * bit P i) (bit-pow-other q i ne) ∙ zero-mul (bit P i)
     ]
 
-  pub idle-linear : (q : ℕ) → q < 48 → bit P q ≡ 0 → linearAt s q ≡ 0
+  pub idle-linear : (q : ℕ) → q < 48 → bit P q ≡ 0 → coefficient_at s q ≡ 0
   idle-linear q l z =
-      drop-same s.form.phase (linearAt s q) (coef-low s.form q)
+      drop-same s.form.phase (coefficient_at s q) (coef-low s.form q)
       (sym (value-one s.form q l) ∙ s.idle (2 ^ q) ∙ ap (value_at s.form) (part q z) ∙ value-zero s.form)
 
   -- of two powers of two, one of them at no pivot, the other's part is left
@@ -58,14 +58,14 @@ module _ (s : PhasedSpace) where
 
   pub idle-link : (k b i j : ℕ) → k < 48 → b < k → bit P i ≡ 0 → i < 48 → j < 48
       → ((x : ℕ) → bit (2 ^ k) x + bit (2 ^ b) x ≡ bit (2 ^ i) x + bit (2 ^ j) x)
-      → linearAt s b + linearAt s k ≡ linearAt s i + linearAt s j
+      → coefficient_at s b + coefficient_at s k ≡ coefficient_at s i + coefficient_at s j
       → link s.form.coupling k b ≡ 0
   idle-link k b i j l h z li lj e f =
       let q = s.form.phase in
       let v = sym (value-two s.form k b l h) ∙ s.idle (2 ^ k + 2 ^ b) ∙ ap (value_at s.form) (part-both k b i h z j e)
       ∙ sym (s.idle (2 ^ j)) ∙ value-one s.form j lj in
-      left q (linearAt s b) (linearAt s k) (linearAt s j) (link s.form.coupling k b) (link-low s.form k b)
-      (f ∙ ap (λ x. x + linearAt s j) (idle-linear i li z) ∙ zero-add (linearAt s j)) v
+      left q (coefficient_at s b) (coefficient_at s k) (coefficient_at s j) (link s.form.coupling k b) (link-low s.form k b)
+      (f ∙ ap (λ x. x + coefficient_at s j) (idle-linear i li z) ∙ zero-add (coefficient_at s j)) v
     where
       left : (q x y w l : ℕ) → l < 2 → x + y ≡ w → (q + x + (y + 4 * l)) % 8 ≡ (q + w) % 8 → l ≡ 0
       left q x y w l h e v =
@@ -119,12 +119,12 @@ module _ (b : List ℕ) (p n k : ℕ) (good : Sound b p n k) where
     ]
 
     module _ (x : Weighs b p n k s) (y : Weighs b p n k t) where
-      same-linear : (q : ℕ) → q < 48 → linearAt s q ≡ linearAt t q
+      same-linear : (q : ℕ) → q < 48 → coefficient_at s q ≡ coefficient_at t q
       same-linear q l = elim (cases_eq (bit s.space.pivots q) 0) [
         | inl z ↦ idle-linear s q l z ∙ sym (idle-linear t q l (off q z))
         | inr z ↦
             let f = v.pivots q (omega (arith, bit-lt s.space.pivots q)) in
-            ap (linearAt s) f.2 ∙ x.linear f.0 f.1 ∙ sym (y.linear f.0 f.1) ∙ ap (linearAt t) (sym f.2)
+            ap (coefficient_at s) f.2 ∙ x.linear f.0 f.1 ∙ sym (y.linear f.0 f.1) ∙ ap (coefficient_at t) (sym f.2)
       ]
 
       same-link : (i j : ℕ) → i < 48 → j < i → link s.form.coupling i j ≡ link t.form.coupling i j
@@ -162,7 +162,7 @@ module _ (b : List ℕ) (p n k : ℕ) (good : Sound b p n k) where
           (link s.form.coupling) (link t.form.coupling) (bit c) 48 same-linear same-link)
 
 -- two states that the same bits hold are the same
-pub one_state : (b : List ℕ) (p : ℕ) (s t : StabilizerState) → stateFault b p ≡ None → Holds b p s → Holds b p t → SameState s t
+pub one_state : (b : List ℕ) (p : ℕ) (s t : StabilizerState) → state_fault b p ≡ None → Holds b p s → Holds b p t → SameState s t
 one_state b p s t e v w =
     let good = sound b p e in
     let shift = v.spans.shift ∙ sym w.spans.shift in

@@ -7,8 +7,8 @@ use Rattle.std.proofs.lemmas.Bool.{cases_eq, cond-true, cond-false}
 use Rattle.archive.specs.declared.fault.Field.TheVariants.{Row}
 use Rattle.archive.specs.declared.fault.Rule.TheVariants.{EchelonForm}
 use Rattle.archive.specs.declared.fault.StateFault.TheVariants.{Broken}
-use Rattle.archive.specs.Bits.{bitsAt}
-use Rattle.archive.specs.Layout.{row_at, lead, descends, apart, offLeads, row, rows, unless, firstFault}
+use Rattle.archive.specs.Bits.{bits_from}
+use Rattle.archive.specs.Layout.{row_at, lead, descends, apart, off_leads, row, rows, unless, first_fault}
 use Rattle.archive.proofs.Steps.{broken, fine}
 
 two : (x : ℕ) → (x % 2 ≡ 0) ⊎ (x % 2 ≡ 1)
@@ -81,28 +81,28 @@ off-more v leads t =
 -- the reader stands at the place q, before row a of k, and has found no fault
 pub record Sofar (b : List ℕ) (p n k a q above seen leads : ℕ) : Type 0 where
   pub stands : q ≡ p + 28 + a * n
-  pub verdict : firstFault b (p + 28) (rows b p n 0 k) ≡ firstFault b q (rows b p n a (k - a))
+  pub verdict : first_fault b (p + 28) (rows b p n 0 k) ≡ first_fault b q (rows b p n a (k - a))
   pub order : (v : ℕ) → descends b p n v a ≡ ltb (lead v) above
   pub clear : (t : ℕ) → apart b p n t a ≡ eqb (seen / 2 ^ t % 2) 0
-  pub off : (v : ℕ) → offLeads b p n v a ≡ eqb (bit_and v leads) 0
+  pub off : (v : ℕ) → off_leads b p n v a ≡ eqb (bit_and v leads) 0
 
 abbrev pub Good : ℕ → ℕ → ℕ → Bool
 Good above seen v = ltb 0 v && (ltb (lead v) above && eqb (seen / 2 ^ lead v % 2) 0)
 
 -- one row: its rule in the reader's terms
 module _ (b : List ℕ) (p n k a q above seen leads : ℕ) (l : a < k) (w : Sofar b p n k a q above seen leads) where
-  pub next_row : firstFault b (p + 28) (rows b p n 0 k) ≡ firstFault b q (row b p n a ∷ rows b p n (a + 1) (k - (a + 1)))
-  next_row = let e : k - a ≡ suc (k - (a + 1)) = omega arith in w.verdict ∙ ap (λ m. firstFault b q (rows b p n a m)) e
+  pub next_row : first_fault b (p + 28) (rows b p n 0 k) ≡ first_fault b q (row b p n a ∷ rows b p n (a + 1) (k - (a + 1)))
+  next_row = let e : k - a ≡ suc (k - (a + 1)) = omega arith in w.verdict ∙ ap (λ m. first_fault b q (rows b p n a m)) e
 
-  module _ (v : ℕ) (e : v ≡ bitsAt b q n) (h : q + n ≤ 8 * length b) where
+  module _ (v : ℕ) (e : v ≡ bits_from b q n) (h : q + n ≤ 8 * length b) where
     rule : (row b p n a).breaks v ≡ unless (Good above seen v) EchelonForm
     rule = rw (w.order v, w.clear (lead v)) refl
 
-    pub row-broken : Good above seen v ≡ false → firstFault b (p + 28) (rows b p n 0 k) ≡ Some (Broken EchelonForm Row q)
+    pub row-broken : Good above seen v ≡ false → first_fault b (p + 28) (rows b p n 0 k) ≡ Some (Broken EchelonForm Row q)
     row-broken z = next_row ∙ broken b q (row b p n a) _ v e h EchelonForm (rule ∙ cond-false _ _ _ z)
 
     is_row : v ≡ row_at b p n a
-    is_row = e ∙ ap (λ t. bitsAt b t n) w.stands
+    is_row = e ∙ ap (λ t. bits_from b t n) w.stands
 
     pub row_more : Good above seen v ≡ true → Sofar b p n k (a + 1) (q + n) (lead v) (bit_or seen v) (bit_or leads (2 ^ lead v))
     row_more z =

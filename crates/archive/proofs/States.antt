@@ -6,8 +6,8 @@ use Rattle.archive.specs.declared.fault.StateFault.{StateFault}
 use Rattle.archive.specs.declared.fault.ArchiveFault.{ArchiveFault}
 use Rattle.archive.specs.declared.fault.ArchiveFault.TheVariants.{State, Short, Overfull}
 use Rattle.archive.specs.First.{first, or_else}
-use Rattle.archive.specs.Layout.{verdicts, parts_at, firstFault, stateFault, stateEnd}
-use Rattle.archive.specs.Archives.{count_of, placeAfter, carried, statesVerdicts, statesFault, restVerdict, archiveVerdicts, archiveFault}
+use Rattle.archive.specs.Layout.{verdicts, parts_at, first_fault, state_fault, end_of_state}
+use Rattle.archive.specs.Archives.{count_of, place_after, carried, states_verdicts, states_fault, rest_verdict, archive_verdicts, archive_fault}
 use Rattle.archive.proofs.First.{none-some}
 use Rattle.archive.proofs.Steps.{or_assoc}
 
@@ -26,87 +26,87 @@ unfolding first
 first-carried i [] = refl
 first-carried i (x ∷ xs) = ap (or_else (carried i x)) (first-carried i xs) ∙ carried-or i x (first xs)
 
-pub first-place : (b : List ℕ) → placeAfter b 0 ≡ 8
-unfolding placeAfter
+pub first-place : (b : List ℕ) → place_after b 0 ≡ 8
+unfolding place_after
 first-place b = refl
 
 -- each state begins and ends with a byte
-pub whole-bytes : (b : List ℕ) (m : ℕ) → placeAfter b m % 8 ≡ 0
-unfolding placeAfter stateEnd
+pub whole-bytes : (b : List ℕ) (m : ℕ) → place_after b m % 8 ≡ 0
+unfolding place_after end_of_state
 whole-bytes b zero = refl
 whole-bytes b (suc m) = omega arith
 
-pub place-rises : (b : List ℕ) (i : ℕ) → placeAfter b (i - 1) ≤ placeAfter b i
-unfolding placeAfter stateEnd
+pub place-rises : (b : List ℕ) (i : ℕ) → place_after b (i - 1) ≤ place_after b i
+unfolding place_after end_of_state
 place-rises b zero = omega arith
 place-rises b (suc m) = let e : suc m - 1 ≡ m = omega arith in rw e (omega arith)
 
-pub next_place : (b : List ℕ) (i : ℕ) → placeAfter b (i + 1) ≡ stateEnd b (placeAfter b i)
-unfolding placeAfter
+pub next_place : (b : List ℕ) (i : ℕ) → place_after b (i + 1) ≡ end_of_state b (place_after b i)
+unfolding place_after
 next_place b i = rw add-one refl
 
-pub no-states : (b : List ℕ) (i : ℕ) → statesFault b i 0 ≡ None
-unfolding statesFault first
+pub no-states : (b : List ℕ) (i : ℕ) → states_fault b i 0 ≡ None
+unfolding states_fault first
 no-states b i = refl
 
 -- one state more
-module _ (b : List ℕ) (i m p : ℕ) (at : p ≡ placeAfter b i) where
-  one_more : (o : Option StateFault) → stateFault b p ≡ o → statesFault b i (suc m) ≡ or_else (carried (i + 1) o) (statesFault b (i + 1) m)
-  unfolding statesFault stateFault firstFault
+module _ (b : List ℕ) (i m p : ℕ) (at : p ≡ place_after b i) where
+  one_more : (o : Option StateFault) → state_fault b p ≡ o → states_fault b i (suc m) ≡ or_else (carried (i + 1) o) (states_fault b (i + 1) m)
+  unfolding states_fault state_fault first_fault
   one_more o e =
-      let fields = verdicts b (placeAfter b i) (parts_at b (placeAfter b i)) in
-      first-joined (map (carried (i + 1)) fields) (statesVerdicts b (i + 1) m)
-      ∙ ap (λ x. or_else x (first (statesVerdicts b (i + 1) m)))
+      let fields = verdicts b (place_after b i) (parts_at b (place_after b i)) in
+      first-joined (map (carried (i + 1)) fields) (states_verdicts b (i + 1) m)
+      ∙ ap (λ x. or_else x (first (states_verdicts b (i + 1) m)))
       (first-carried (i + 1) fields ∙ ap (carried (i + 1)) (ap (λ q. first (verdicts b q (parts_at b q))) (sym at) ∙ e))
 
-  pub state-fine : stateFault b p ≡ None → statesFault b i (suc m) ≡ statesFault b (i + 1) m
+  pub state-fine : state_fault b p ≡ None → states_fault b i (suc m) ≡ states_fault b (i + 1) m
   state-fine e = one_more None e
 
-  pub state-bad : (f : StateFault) → stateFault b p ≡ Some f → statesFault b i (suc m) ≡ Some (State (i + 1) f)
+  pub state-bad : (f : StateFault) → state_fault b p ≡ Some f → states_fault b i (suc m) ≡ Some (State (i + 1) f)
   state-bad f e = one_more (Some f) e
 
 -- a state without a fault, by itself
-pub state-good : (b : List ℕ) (i : ℕ) → statesFault b i 1 ≡ None → stateFault b (placeAfter b i) ≡ None
-state-good b i e = go (stateFault b (placeAfter b i)) refl where
-  go : (o : Option StateFault) → stateFault b (placeAfter b i) ≡ o → o ≡ None
+pub state-good : (b : List ℕ) (i : ℕ) → states_fault b i 1 ≡ None → state_fault b (place_after b i) ≡ None
+state-good b i e = go (state_fault b (place_after b i)) refl where
+  go : (o : Option StateFault) → state_fault b (place_after b i) ≡ o → o ≡ None
   go None h = refl
   go (Some f) h = absurd (none-some _ (sym e ∙ state-bad b i 0 _ refl f h))
 
 -- states after states
-states-joined : (b : List ℕ) (i m l : ℕ) → statesVerdicts b i (m + l) ≡ statesVerdicts b i m ++ statesVerdicts b (i + m) l
-states-joined b i zero l = ap₂ (statesVerdicts b) (sym (add-zero i)) (zero-add l)
+states-joined : (b : List ℕ) (i m l : ℕ) → states_verdicts b i (m + l) ≡ states_verdicts b i m ++ states_verdicts b (i + m) l
+states-joined b i zero l = ap₂ (states_verdicts b) (sym (add-zero i)) (zero-add l)
 states-joined b i (suc m) l =
-    let fields = map (carried (i + 1)) (verdicts b (placeAfter b i) (parts_at b (placeAfter b i))) in
+    let fields = map (carried (i + 1)) (verdicts b (place_after b i) (parts_at b (place_after b i))) in
     let e : i + 1 + m ≡ i + suc m = omega arith in
-    ap (statesVerdicts b i) (suc-add m l)
-    ∙ ap (λ t. fields ++ t) (states-joined b (i + 1) m l ∙ ap (λ t. statesVerdicts b (i + 1) m ++ statesVerdicts b t l) e)
-    ∙ sym (append_assoc fields (statesVerdicts b (i + 1) m) (statesVerdicts b (i + suc m) l))
+    ap (states_verdicts b i) (suc-add m l)
+    ∙ ap (λ t. fields ++ t) (states-joined b (i + 1) m l ∙ ap (λ t. states_verdicts b (i + 1) m ++ states_verdicts b t l) e)
+    ∙ sym (append_assoc fields (states_verdicts b (i + 1) m) (states_verdicts b (i + suc m) l))
 
-pub states-split : (b : List ℕ) (i m l : ℕ) → statesFault b i (m + l) ≡ or_else (statesFault b i m) (statesFault b (i + m) l)
-unfolding statesFault
-states-split b i m l = ap first (states-joined b i m l) ∙ first-joined (statesVerdicts b i m) (statesVerdicts b (i + m) l)
+pub states-split : (b : List ℕ) (i m l : ℕ) → states_fault b i (m + l) ≡ or_else (states_fault b i m) (states_fault b (i + m) l)
+unfolding states_fault
+states-split b i m l = ap first (states-joined b i m l) ∙ first-joined (states_verdicts b i m) (states_verdicts b (i + m) l)
 
 -- an archive: no count, too high a count, or the states and the rest
-pub no-count : (b : List ℕ) → length b ≡ 0 → archiveFault b ≡ Some (Short (record { field = Count; place = 0 }))
-unfolding archiveFault archiveVerdicts first
+pub no-count : (b : List ℕ) → length b ≡ 0 → archive_fault b ≡ Some (Short (record { field = Count; place = 0 }))
+unfolding archive_fault archive_verdicts first
 no-count [] h = refl
 no-count (c ∷ r) h = absurd (omega arith)
 
-pub high-count : (b : List ℕ) → 0 < length b → 100 < count_of b → archiveFault b ≡ Some Overfull
-unfolding archiveFault archiveVerdicts first
+pub high-count : (b : List ℕ) → 0 < length b → 100 < count_of b → archive_fault b ≡ Some Overfull
+unfolding archive_fault archive_verdicts first
 high-count [] h g = absurd (omega arith)
 high-count (c ∷ r) h g =
-    ap (λ t. or_else t (first (statesVerdicts (c ∷ r) 0 c ++ restVerdict (c ∷ r) (placeAfter (c ∷ r) c) ∷ [])))
+    ap (λ t. or_else t (first (states_verdicts (c ∷ r) 0 c ++ rest_verdict (c ∷ r) (place_after (c ∷ r) c) ∷ [])))
     (cond-true (ltb 100 c) (Some Overfull) None (lt-ltb 100 c g))
 
 pub states-rest : (b : List ℕ) → 0 < length b → count_of b ≤ 100
-    → archiveFault b ≡ or_else (statesFault b 0 (count_of b)) (restVerdict b (placeAfter b (count_of b)))
-unfolding archiveFault archiveVerdicts statesFault first
+    → archive_fault b ≡ or_else (states_fault b 0 (count_of b)) (rest_verdict b (place_after b (count_of b)))
+unfolding archive_fault archive_verdicts states_fault first
 states-rest [] h g = absurd (omega arith)
 states-rest (c ∷ r) h g =
-    let rest = restVerdict (c ∷ r) (placeAfter (c ∷ r) c) in
-    ap (λ t. or_else t (first (statesVerdicts (c ∷ r) 0 c ++ rest ∷ []))) (cond-false (ltb 100 c) (Some Overfull) None (le-ltb 100 c g))
-    ∙ first-joined (statesVerdicts (c ∷ r) 0 c) (rest ∷ []) ∙ ap (or_else (first (statesVerdicts (c ∷ r) 0 c))) (or-none rest)
+    let rest = rest_verdict (c ∷ r) (place_after (c ∷ r) c) in
+    ap (λ t. or_else t (first (states_verdicts (c ∷ r) 0 c ++ rest ∷ []))) (cond-false (ltb 100 c) (Some Overfull) None (le-ltb 100 c g))
+    ∙ first-joined (states_verdicts (c ∷ r) 0 c) (rest ∷ []) ∙ ap (or_else (first (states_verdicts (c ∷ r) 0 c))) (or-none rest)
   where
     or-none : (x : Option ArchiveFault) → or_else x None ≡ x
     or-none None = refl

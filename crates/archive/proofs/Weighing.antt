@@ -2,13 +2,13 @@
 use Rattle.std.proofs.Common.{◌≡◌, ℕ, ◌+◌, ◌*◌, ◌%◌, ◌^◌, ◌<◌, ◌≢◌, List, sym, ap, ◌∙◌, ap₂, inl, inr, add-zero, mod-eq_of_lt, mul-zero, zero-add, zero-mul, mul-one, arith, below_more}
 use Rattle.std.proofs.lemmas.Bool.{cases_lt, cases_eq}
 use Rattle.quadratic.specs.Bits.{bit}
-use Rattle.quadratic.specs.Fields.{linearAt}
+use Rattle.quadratic.specs.Fields.{coefficient_at}
 use Rattle.quadratic.specs.Quadratic.{link}
 use Rattle.quadratic.specs.declared.phased.PhasedSpace.{PhasedSpace}
 use Rattle.quadratic.proofs.Bitlaws.{bit-pow, bit-pow-other}
-use Rattle.archive.specs.Bits.{bitsAt}
+use Rattle.archive.specs.Bits.{bits_from}
 use Rattle.archive.specs.Layout.{row_at, lead}
-use Rattle.archive.specs.Held.{Sound, linearPlace, couplingPlace}
+use Rattle.archive.specs.Held.{Sound, linear_place, place_of_coupling}
 use Rattle.archive.specs.Reading.{LinearUpTo, RowUpTo, CouplingUpTo, link_at}
 use Rattle.archive.specs.Coefficients.{LinearGrown, CouplingGrown}
 use Rattle.archive.proofs.Coefficients.{coef-low, link-low}
@@ -27,15 +27,15 @@ module _ (b : List ℕ) (p n k : ℕ) (good : Sound b p n k) where
 
   -- the linear coefficient of row a
   module _ (a : ℕ) (l : a < k) (s₀ s s' : PhasedSpace) (q v : ℕ) (eq : q ≡ lead (row_at b p n a)) (low : v < 4)
-      (ev : v ≡ bitsAt b (linearPlace p n k a) 2) (w : LinearUpTo b p n k a s₀ s) (g : LinearGrown s s' q v) where
-    other : (j : ℕ) → j < k → j ≢ a → linearAt s' (lead (row_at b p n j)) ≡ linearAt s (lead (row_at b p n j))
+      (ev : v ≡ bits_from b (linear_place p n k a) 2) (w : LinearUpTo b p n k a s₀ s) (g : LinearGrown s s' q v) where
+    other : (j : ℕ) → j < k → j ≢ a → coefficient_at s' (lead (row_at b p n j)) ≡ coefficient_at s (lead (row_at b p n j))
     other j m ne =
         let x = lead (row_at b p n j) in
         let off = bit-pow-other x q (λ e. lead-apart j a m l ne (sym e ∙ eq)) in
-        g.linear x (lead-48 j m) ∙ ap (λ t. (linearAt s x + 2 * v * t) % 8) off ∙ ap (λ t. (linearAt s x + t) % 8) (mul-zero (2 * v))
-        ∙ ap (λ t. t % 8) (add-zero (linearAt s x)) ∙ mod-eq_of_lt (coef-low s.form x)
+        g.linear x (lead-48 j m) ∙ ap (λ t. (coefficient_at s x + 2 * v * t) % 8) off ∙ ap (λ t. (coefficient_at s x + t) % 8) (mul-zero (2 * v))
+        ∙ ap (λ t. t % 8) (add-zero (coefficient_at s x)) ∙ mod-eq_of_lt (coef-low s.form x)
 
-    here : linearAt s' (lead (row_at b p n a)) ≡ 2 * bitsAt b (linearPlace p n k a) 2
+    here : coefficient_at s' (lead (row_at b p n a)) ≡ 2 * bits_from b (linear_place p n k a) 2
     here =
         let x = lead (row_at b p n a) in
         let on : bit (2 ^ x) q ≡ 1 = ap (bit (2 ^ x)) eq ∙ bit-pow x in
@@ -54,7 +54,7 @@ module _ (b : List ℕ) (p n k : ℕ) (good : Sound b p n k) where
 
   -- the coupling of rows a and c
   module _ (a c : ℕ) (l : a < c) (m : c < k) (s₀ s s' : PhasedSpace) (p' q v : ℕ) (ep : p' ≡ lead (row_at b p n a))
-      (eq : q ≡ lead (row_at b p n c)) (low : v < 2) (ev : v ≡ bitsAt b (couplingPlace p n k a c) 1) (w : RowUpTo b p n k a c s₀ s)
+      (eq : q ≡ lead (row_at b p n c)) (low : v < 2) (ev : v ≡ bits_from b (place_of_coupling p n k a c) 1) (w : RowUpTo b p n k a c s₀ s)
       (g : CouplingGrown s s' p' q v) where
     abbrev at : ℕ → ℕ
     at i = lead (row_at b p n i)
@@ -76,7 +76,7 @@ module _ (b : List ℕ) (p n k : ℕ) (good : Sound b p n k) where
     other-column j ne h h₂ = still a j h h₂
         (ap (λ t. bit (2 ^ at a) p' * t) (bit-pow-other (at j) q (λ e. lead-apart j c h₂ m ne (sym e ∙ eq))) ∙ mul-zero (bit (2 ^ at a) p'))
 
-    there : link_at b p n s' a c ≡ bitsAt b (couplingPlace p n k a c) 1
+    there : link_at b p n s' a c ≡ bits_from b (place_of_coupling p n k a c) 1
     there =
         let x : bit (2 ^ at a) p' ≡ 1 = ap (bit (2 ^ at a)) ep ∙ bit-pow (at a) in
         let y : bit (2 ^ at c) q ≡ 1 = ap (bit (2 ^ at c)) eq ∙ bit-pow (at c) in
@@ -88,11 +88,11 @@ module _ (b : List ℕ) (p n k : ℕ) (good : Sound b p n k) where
       same = record {
         space = g.space ∙ w.same.space;
         phase = g.phase ∙ w.same.phase;
-        linear = λ x i. g.linear x i ∙ ap (λ t. t % 8) (add-zero (linearAt s x)) ∙ mod-eq_of_lt (coef-low s.form x)
+        linear = λ x i. g.linear x i ∙ ap (λ t. t % 8) (add-zero (coefficient_at s x)) ∙ mod-eq_of_lt (coef-low s.form x)
             ∙ w.same.linear x i;
       };
       done = λ j h i. elim (cases_eq j c) [
-        | inl e ↦ ap (link_at b p n s' a) e ∙ there ∙ ap (λ t. bitsAt b (couplingPlace p n k a t) 1) (sym e)
+        | inl e ↦ ap (link_at b p n s' a) e ∙ there ∙ ap (λ t. bits_from b (place_of_coupling p n k a t) 1) (sym e)
         | inr ne ↦ other-column j ne h (omega arith) ∙ w.done j h (omega arith)
       ];
       todo = λ j h i o. other-column j (omega arith) h o ∙ w.todo j h (omega arith) o;
@@ -109,7 +109,7 @@ module _ (b : List ℕ) (p n k : ℕ) (good : Sound b p n k) where
       linear = λ x i. r.same.linear x i ∙ w.same.linear x i;
     };
     done = λ i j h h₂ o. elim (cases_eq i a) [
-      | inl e ↦ ap (λ t. link_at b p n s' t j) e ∙ r.done j (omega arith) o ∙ ap (λ t. bitsAt b (couplingPlace p n k t j) 1) (sym e)
+      | inl e ↦ ap (λ t. link_at b p n s' t j) e ∙ r.done j (omega arith) o ∙ ap (λ t. bits_from b (place_of_coupling p n k t j) 1) (sym e)
       | inr ne ↦ r.others i j ne h₂ o ∙ w.done i j (omega arith) h₂ o
     ];
     todo = λ i j h h₂ o. r.others i j (omega arith) h₂ o ∙ w.todo i j (omega arith) h₂ o;

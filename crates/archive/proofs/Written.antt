@@ -4,13 +4,13 @@ use lib.Count.{ones, ones-le}
 use Rattle.std.proofs.lemmas.Bool.{cases_eq, cases_lt, lt-ltb, eq-eqb, and_from}
 use Rattle.quadratic.specs.Bits.{bit}
 use Rattle.quadratic.specs.Echelon.{row}
-use Rattle.quadratic.specs.Fields.{linearAt, couplingAt}
+use Rattle.quadratic.specs.Fields.{coefficient_at, coupling_between}
 use Rattle.quadratic.specs.declared.affine.AffineSpace.{AffineSpace}
 use Rattle.quadratic.specs.declared.phased.PhasedSpace.{PhasedSpace}
 use Rattle.quadratic.proofs.Bitlaws.{bit-and, bit-zero, bit_past, bit-pow, bit-pow-other}
 use Rattle.stabilizer.specs.declared.state.StabilizerState.{StabilizerState}
-use Rattle.archive.specs.Bits.{bitsAt, Framed}
-use Rattle.archive.specs.Layout.{row_at, lead, apart, descends, offLeads, bitCount, padded, padding, aloneFault}
+use Rattle.archive.specs.Bits.{bits_from, Framed}
+use Rattle.archive.specs.Layout.{row_at, lead, apart, descends, off_leads, bits_before_fill, padded, padding, alone_fault}
 use Rattle.archive.specs.Held.{Sound, Spans, Weighs, Holds}
 use Rattle.archive.specs.Writes.{Falling, HeaderPut, RowsPut, FormPut}
 use Rattle.archive.proofs.Alone.{alone-good}
@@ -62,7 +62,7 @@ unfolding bit
 apart_from b p n t zero h = refl
 apart_from b p n t (suc a) h = and_from _ _ (eq-eqb _ 0 (h a (omega arith))) (apart_from b p n t a (λ j l. h j (omega arith)))
 
-off-from : (b : List ℕ) (p n v a : ℕ) → ((j : ℕ) → j < a → bit v (lead (row_at b p n j)) ≡ 0) → offLeads b p n v a ≡ true
+off-from : (b : List ℕ) (p n v a : ℕ) → ((j : ℕ) → j < a → bit v (lead (row_at b p n j)) ≡ 0) → off_leads b p n v a ≡ true
 unfolding bit
 off-from b p n v zero h = refl
 off-from b p n v (suc a) h = and_from _ _ (eq-eqb _ 0 (h a (omega arith))) (off-from b p n v a (λ j l. h j (omega arith)))
@@ -107,7 +107,7 @@ module _ (b : List ℕ) (s : StabilizerState) (k : ℕ) (leads : List ℕ) (ek :
       ap₂ bit (r.rows j (omega arith)) (lead-at a l)
       ∙ other-bit space (at j) (fall.on j (omega arith)) (at a) (fall.on a l) (omega arith))
 
-  pub sound : padded (0 + bitCount n k) ≤ 8 * length b → bitsAt b (0 + bitCount n k) (padding (0 + bitCount n k)) ≡ 0 → Sound b 0 n k
+  pub sound : padded (0 + bits_before_fill n k) ≤ 8 * length b → bits_from b (0 + bits_before_fill n k) (padding (0 + bits_before_fill n k)) ≡ 0 → Sound b 0 n k
   sound long zeros = record {
     some = s.some;
     few = s.few;
@@ -131,15 +131,15 @@ module _ (b : List ℕ) (s : StabilizerState) (k : ℕ) (leads : List ℕ) (ek :
   pub weighs : Weighs b 0 n k s.body
   weighs = record {
     phase = sym h.phased;
-    linear = λ a l. ap (linearAt s.body) (lead-at a l) ∙ sym (f.linear a l);
-    coupling = λ a c l m. ap₂ (couplingAt s.body) (lead-at a (omega arith)) (lead-at c m) ∙ ap (λ t. 4 * t) (sym (f.coupling a c l m));
+    linear = λ a l. ap (coefficient_at s.body) (lead-at a l) ∙ sym (f.linear a l);
+    coupling = λ a c l m. ap₂ (coupling_between s.body) (lead-at a (omega arith)) (lead-at c m) ∙ ap (λ t. 4 * t) (sym (f.coupling a c l m));
   }
 
-  pub written : 8 * length b ≡ padded (bitCount n k) → bitsAt b (bitCount n k) (padding (bitCount n k)) ≡ 0 → (aloneFault b ≡ None)
+  pub written : 8 * length b ≡ padded (bits_before_fill n k) → bits_from b (bits_before_fill n k) (padding (bits_before_fill n k)) ≡ 0 → (alone_fault b ≡ None)
       × Holds b 0 s
   written long zeros =
-      let here : 0 + bitCount n k ≡ bitCount n k = zero-add (bitCount n k) in
-      let good = sound (rw here (omega arith)) (ap (λ t. bitsAt b t (padding t)) here ∙ zeros) in
+      let here : 0 + bits_before_fill n k ≡ bits_before_fill n k = zero-add (bits_before_fill n k) in
+      let good = sound (rw here (omega arith)) (ap (λ t. bits_from b t (padding t)) here ∙ zeros) in
       let fine = clean b 0 n k (sym h.size) (sym h.rank) good in
       let end = end_is b 0 n k (sym h.size) (sym h.rank) ∙ ap padded here ∙ sym long in (
         alone-good b fine (8 * length b) (sym end) refl,
@@ -156,23 +156,23 @@ fields-low s n k leads t en et fall =
 -- the bytes of the state, in a longer run
 module _ (s : StabilizerState) (b : List ℕ) (m n k loss : ℕ) (leads : List ℕ) (t : PhasedSpace) (en : n ≡ s.qubits)
     (el : loss ≡ s.loss) (et : t ≡ s.body)
-    (ek : k ≡ ones s.body.space.pivots) (fall : Falling s.body.space.pivots k leads) (em : 8 * m ≡ padded (bitCount n k))
+    (ek : k ≡ ones s.body.space.pivots) (fall : Falling s.body.space.pivots k leads) (em : 8 * m ≡ padded (bits_before_fill n k))
     (room : m ≤ length b) where
   agree : Agree b (take m b) (8 * m)
   agree q l = bit-take b m q l
 
   pub encoded : HeaderPut b n k loss t.form.phase → RowsPut b n k leads t → FormPut b n k leads t
-      → bitsAt b (bitCount n k) (padding (bitCount n k)) ≡ 0
-      → (aloneFault (take m b) ≡ None) × Holds (take m b) 0 s
+      → bits_from b (bits_before_fill n k) (padding (bits_before_fill n k)) ≡ 0
+      → (alone_fault (take m b) ≡ None) × Holds (take m b) 0 s
   encoded h r f z =
       let d = take m b in
       written d s k leads ek fall
       (header_of d s n k loss leads t en el et (header-kept b d (8 * m) agree n k (omega arith) loss _ h))
       (rows_of d s n k loss leads t en el et (rows-kept b d (8 * m) agree n k leads t (omega arith) r))
       (form_of d s n k loss leads t en el et (form-kept b d (8 * m) agree n k leads t (omega arith) f))
-      (ap (λ x. 8 * x) (length-take-le m b room) ∙ em ∙ ap (λ x. padded (bitCount x k)) en)
-      (ap (λ x. bitsAt d (bitCount x k) (padding (bitCount x k))) (sym en)
-      ∙ bits-take b m (bitCount n k) (padding (bitCount n k)) (omega arith) ∙ z)
+      (ap (λ x. 8 * x) (length-take-le m b room) ∙ em ∙ ap (λ x. padded (bits_before_fill x k)) en)
+      (ap (λ x. bits_from d (bits_before_fill x k) (padding (bits_before_fill x k))) (sym en)
+      ∙ bits-take b m (bits_before_fill n k) (padding (bits_before_fill n k)) (omega arith) ∙ z)
 
 -- the bytes past it
 pub bytes_past : (b d : List ℕ) (m q : ℕ) → ((i : ℕ) → get_or b i 0 < 256) → ((i : ℕ) → get_or d i 0 < 256) → 8 * m ≡ q → Framed b d 0 q

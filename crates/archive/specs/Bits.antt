@@ -6,9 +6,9 @@ unfoldable pub bit_at : List ℕ → ℕ → ℕ
 bit_at b i = slice_index b (i / 8) / 2 ^ (7 - i % 8) % 2
 
 -- the number in the bits from a place on, a width of them
-unfoldable pub bitsAt : List ℕ → ℕ → ℕ → ℕ
-bitsAt b p zero = 0
-bitsAt b p (suc w) = bitsAt b p w * 2 + bit_at b (p + w)
+unfoldable pub bits_from : List ℕ → ℕ → ℕ → ℕ
+bits_from b p zero = 0
+bits_from b p (suc w) = bits_from b p w * 2 + bit_at b (p + w)
 
 -- only bits from one place up to another changed
 abbrev pub Framed : List ℕ → List ℕ → ℕ → ℕ → Type 0

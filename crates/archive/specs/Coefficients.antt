@@ -1,7 +1,7 @@
 -- Steps in which a form is built, coefficient by coefficient.
 use Rattle.std.specs.Prelude.{◌≡◌, ℕ, ◌+◌, ◌*◌, ◌%◌, ◌^◌, ◌<◌}
 use Rattle.quadratic.specs.Bits.{bit}
-use Rattle.quadratic.specs.Fields.{linearAt}
+use Rattle.quadratic.specs.Fields.{coefficient_at}
 use Rattle.quadratic.specs.Quadratic.{link}
 use Rattle.quadratic.specs.declared.phased.PhasedSpace.{PhasedSpace}
 
@@ -9,7 +9,7 @@ use Rattle.quadratic.specs.declared.phased.PhasedSpace.{PhasedSpace}
 pub record Grown (s s' : PhasedSpace) (E : ℕ → ℕ) (F : ℕ → ℕ → ℕ) : Type 0 where
   pub space : s'.space ≡ s.space
   pub phase : s'.form.phase ≡ s.form.phase
-  pub linear : (k : ℕ) → k < 48 → linearAt s' k ≡ (linearAt s k + E k) % 8
+  pub linear : (k : ℕ) → k < 48 → coefficient_at s' k ≡ (coefficient_at s k + E k) % 8
   pub coupling : (k b : ℕ) → k < 48 → b < k → link s'.form.coupling k b ≡ (link s.form.coupling k b + F k b) % 2
 
 -- 2 · value more at the row with the pivot p

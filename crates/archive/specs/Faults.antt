@@ -11,26 +11,26 @@ use Rattle.archive.specs.declared.fault.StateFault.TheVariants.{Bits, Broken}
 use Rattle.archive.specs.declared.fault.ArchiveFault.{ArchiveFault}
 use Rattle.archive.specs.declared.fault.ArchiveFault.TheVariants.{State, Short, Overfull, LeftOver}
 
-abbrev pub fieldNumber : Field → ℕ
-fieldNumber Count = 0
-fieldNumber Qubits = 1
-fieldNumber Dimension = 2
-fieldNumber Weight = 3
-fieldNumber Phase = 4
-fieldNumber Row = 5
-fieldNumber Shift = 6
-fieldNumber Linear = 7
-fieldNumber Coupling = 8
-fieldNumber Fill = 9
-fieldNumber Rest = 10
+abbrev pub field_number : Field → ℕ
+field_number Count = 0
+field_number Qubits = 1
+field_number Dimension = 2
+field_number Weight = 3
+field_number Phase = 4
+field_number Row = 5
+field_number Shift = 6
+field_number Linear = 7
+field_number Coupling = 8
+field_number Fill = 9
+field_number Rest = 10
 
-abbrev pub ruleNumber : Rule → ℕ
-ruleNumber QubitRange = 2
-ruleNumber DimensionRange = 3
-ruleNumber WeightRange = 4
-ruleNumber EchelonForm = 5
-ruleNumber ZeroFill = 6
-ruleNumber NothingLeft = 8
+abbrev pub rule_number : Rule → ℕ
+rule_number QubitRange = 2
+rule_number DimensionRange = 3
+rule_number WeightRange = 4
+rule_number EchelonForm = 5
+rule_number ZeroFill = 6
+rule_number NothingLeft = 8
 
 -- what a fault reports
 pub record Report : Type 0 where
@@ -40,22 +40,22 @@ pub record Report : Type 0 where
   pub field : ℕ
   pub place : ℕ
 
-abbrev pub bitsReport : BitsFault → Report
-bitsReport f = record { layer = 1; number = 1; sheet = 0; field = fieldNumber f.field; place = f.place }
+abbrev pub bits_report : BitsFault → Report
+bits_report f = record { layer = 1; number = 1; sheet = 0; field = field_number f.field; place = f.place }
 
-abbrev pub stateReport : StateFault → Report
-stateReport (Bits f) = bitsReport f
-stateReport (Broken r x p) = record { layer = 2; number = ruleNumber r; sheet = 0; field = fieldNumber x; place = p }
+abbrev pub state_report : StateFault → Report
+state_report (Bits f) = bits_report f
+state_report (Broken r x p) = record { layer = 2; number = rule_number r; sheet = 0; field = field_number x; place = p }
 
 -- a report of the state with a number
-abbrev pub ofSheet : ℕ → Report → Report
-ofSheet i r = record { layer = r.layer; number = r.number; sheet = i; field = r.field; place = r.place }
+abbrev pub of_sheet : ℕ → Report → Report
+of_sheet i r = record { layer = r.layer; number = r.number; sheet = i; field = r.field; place = r.place }
 
-abbrev pub archiveReport : ArchiveFault → Report
-archiveReport (State i f) = ofSheet i (stateReport f)
-archiveReport (Short f) = bitsReport f
-archiveReport Overfull = record { layer = 3; number = 7; sheet = 0; field = 0; place = 0 }
-archiveReport (LeftOver p) = record { layer = 3; number = 8; sheet = 0; field = 10; place = p }
+abbrev pub archive_report : ArchiveFault → Report
+archive_report (State i f) = of_sheet i (state_report f)
+archive_report (Short f) = bits_report f
+archive_report Overfull = record { layer = 3; number = 7; sheet = 0; field = 0; place = 0 }
+archive_report (LeftOver p) = record { layer = 3; number = 8; sheet = 0; field = 10; place = p }
 
 -- a fault as that of the state with the number i
 abbrev pub numbered : ℕ → ArchiveFault → ArchiveFault

@@ -1,13 +1,13 @@
 // The bits of a run of bytes, the most significant bit of a byte first.
 ghost use Rattle.std.specs.Prelude.{◌≡◌, ℕ, ◌+◌, ◌-◌, ◌*◌, ◌/◌, ◌%◌, ◌^◌, ◌<◌, ◌≤◌, length, MatchResult, ◌≢◌};
-ghost use Rattle.archive.specs.Bits.{bit_at, bitsAt, Framed};
+ghost use Rattle.archive.specs.Bits.{bit_at, bits_from, Framed};
 
 use crate::fault::{BitsFault, Field};
 
 // The number in the bits from a place on, read a byte at a time.
 pub(crate) fn bits_at(bytes: &[u8], at: usize, width: usize) -> u64
     requires { (at + width ≤ 8 * length bytes.now) × ((width ≤ 64) × (at ≤ 2 ^ 32)) }
-    ensures { result ≡ bitsAt bytes.now at width }
+    ensures { result ≡ bits_from bytes.now at width }
 {
     let mut value: u64 = 0;
     let mut done = 0;
@@ -41,7 +41,7 @@ pub(crate) fn number_at(
     field: Field,
 ) -> Result<u64, BitsFault>
     requires { (width ≤ 64) × (at ≤ 2 ^ 32) }
-    ensures { MatchResult result (λ v. (at + width ≤ 8 * length bytes.now) × (v ≡ bitsAt bytes.now at width))
+    ensures { MatchResult result (λ v. (at + width ≤ 8 * length bytes.now) × (v ≡ bits_from bytes.now at width))
         (λ f. (8 * length bytes.now < at + width) × (f ≡ record { field = field; place = at })) }
 {
     match demand(bytes, at, width, field) {
@@ -65,7 +65,7 @@ fn put_bit(bytes: &mut [u8], i: usize, bit: u8)
 // Puts a number into the bits from a place on; every other bit stays.
 pub(crate) fn put_bits(bytes: &mut [u8], at: usize, width: usize, value: u64)
     requires { (at + width ≤ 8 * length bytes.old) × ((width ≤ 64) × ((at ≤ 2 ^ 32) × (value < 2 ^ width))) }
-    ensures there { bitsAt bytes.new at width ≡ value }
+    ensures there { bits_from bytes.new at width ≡ value }
     ensures framed { Framed bytes.old bytes.new at (at + width) }
 {
     for j in 0..width {

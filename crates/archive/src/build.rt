@@ -1,12 +1,12 @@
 // The state that stands in bits without a fault.
 ghost use Rattle.std.specs.Prelude.{◌≡◌, suc, ◌+◌, ◌-◌, ◌*◌, ◌^◌, ◌<◌, ◌≤◌, None};
 ghost use Rattle.quadratic.specs.Building.{Begun};
-ghost use Rattle.archive.specs.Layout.{stateFault};
+ghost use Rattle.archive.specs.Layout.{state_fault};
 ghost use Rattle.quadratic.specs.Bits.{bit};
 ghost use Rattle.archive.specs.Coefficients.{LinearGrown, CouplingGrown};
 ghost use Rattle.archive.specs.Held.{Sound};
 ghost use Rattle.archive.specs.Reading.{Raised, Listed, OnPivots, LinearUpTo, RowUpTo};
-ghost use Rattle.archive.specs.Held.{Spans, Weighs, Holds, couplingPlace};
+ghost use Rattle.archive.specs.Held.{Spans, Weighs, Holds, place_of_coupling};
 ghost use Rattle.archive.specs.Reading.{CouplingUpTo};
 
 use crate::bits::bits_at;
@@ -77,7 +77,7 @@ fn build_linear(
 // The place of the coupling of row a with the next.
 pub(crate) fn coupling_place(start: usize, n: usize, k: usize, a: usize) -> usize
     requires { (start ≤ 2 ^ 31) × ((n ≤ 48) × ((k ≤ n) × (a < k))) }
-    ensures { result ≡ couplingPlace start n k a (suc a) }
+    ensures { result ≡ place_of_coupling start n k a (suc a) }
 {
     let all = k * (k - 1) / 2;
     let left = (k - a) * (k - a - 1) / 2;
@@ -170,7 +170,7 @@ fn build_body(bytes: &[u8], start: usize, n: usize, k: usize) -> PhasedSpace
 
 // The state whose bits begin at a place and have no fault.
 pub(crate) fn build(bytes: &[u8], start: usize) -> StabilizerState
-    requires { (start ≤ 2 ^ 31) × (stateFault bytes.now start ≡ None) }
+    requires { (start ≤ 2 ^ 31) × (state_fault bytes.now start ≡ None) }
     ensures { Holds bytes.now start result }
 {
     let n = bits_at(bytes, start, 6);

@@ -1,7 +1,7 @@
 // A state alone in a run of bytes: reading and writing.
 ghost use Rattle.std.specs.Prelude.{◌≡◌, ℕ, ◌*◌, ◌<◌, ◌≤◌, length, take, IfOk, Some, None, MatchOption, MatchResult, OnOk, slice_index};
 ghost use Rattle.archive.specs.First.{Faultless, First};
-ghost use Rattle.archive.specs.Layout.{aloneVerdicts, aloneFault, stateFault};
+ghost use Rattle.archive.specs.Layout.{alone_verdicts, alone_fault, state_fault};
 ghost use Rattle.archive.specs.Held.{Holds};
 ghost use Rattle.archive.specs.Writes.{length_of, LaidOut, RunOf, Telling};
 ghost use Rattle.stabilizer.specs.States.{SameState};
@@ -16,8 +16,8 @@ use stabilizer::state::StabilizerState;
 
 // Whether the bytes are those of one state and nothing else.
 fn alone(bytes: &[u8]) -> Result<(), StateFault>
-    ensures { MatchResult result (λ _. (aloneFault bytes.now ≡ None) × (stateFault bytes.now 0 ≡ None))
-        (λ f. aloneFault bytes.now ≡ Some f) }
+    ensures { MatchResult result (λ _. (alone_fault bytes.now ≡ None) × (state_fault bytes.now 0 ≡ None))
+        (λ f. alone_fault bytes.now ≡ Some f) }
 {
     let end = state_end(bytes, 0)?;
     if end / 8 < bytes.len() {
@@ -32,8 +32,8 @@ fn alone(bytes: &[u8]) -> Result<(), StateFault>
 
 // Reads the state that the bytes hold; refused, the state stays as it was.
 pub fn read(state: &mut StabilizerState, bytes: &[u8]) -> Result<(), StateFault>
-    ensures verdict { MatchResult result (λ _. aloneFault bytes.now ≡ None) (λ f. aloneFault bytes.now ≡ Some f) }
-    ensures first { MatchResult result (λ _. Faultless (aloneVerdicts bytes.now)) (First (aloneVerdicts bytes.now)) }
+    ensures verdict { MatchResult result (λ _. alone_fault bytes.now ≡ None) (λ f. alone_fault bytes.now ≡ Some f) }
+    ensures first { MatchResult result (λ _. Faultless (alone_verdicts bytes.now)) (First (alone_verdicts bytes.now)) }
     ensures state { MatchResult result (λ _. Holds bytes.now 0 state.new) (λ _. state.new ≡ state.old) }
     ensures layout { OnOk result (LaidOut state.new bytes.now) }
 {
@@ -96,7 +96,7 @@ pub fn rewrite(
     buffer: &mut [u8],
 ) -> Result<Option<usize>, StateFault>
     ensures bytes { MatchResult result (λ o. MatchOption o (length buffer.old < length bytes.now)
-        (λ m. take m buffer.new ≡ bytes.now)) (λ f. aloneFault bytes.now ≡ Some f) }
+        (λ m. take m buffer.new ≡ bytes.now)) (λ f. alone_fault bytes.now ≡ Some f) }
     ensures state { MatchResult result (λ _. Holds bytes.now 0 state.new) (λ _. state.new ≡ state.old) }
     ensures past { MatchResult result (λ o. MatchOption o (buffer.new ≡ buffer.old)
         (λ m. (i : ℕ) → m ≤ i → slice_index buffer.new i ≡ slice_index buffer.old i))

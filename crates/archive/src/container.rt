@@ -2,10 +2,10 @@
 ghost use Rattle.std.specs.Prelude.{◌≡◌, ◌+◌, ◌-◌, ◌*◌, ◌/◌, ◌^◌, ◌<◌, ◌≤◌, length, Some, None, MatchResult};
 ghost use Rattle.archive.specs.First.{Faultless, First};
 ghost use Rattle.archive.specs.Held.{Holds};
-ghost use Rattle.archive.specs.Layout.{stateFault};
+ghost use Rattle.archive.specs.Layout.{state_fault};
 ghost use Rattle.archive.specs.declared.container.Denial.TheVariants.{Fault};
 ghost use Rattle.archive.specs.Denials.{denied};
-ghost use Rattle.archive.specs.Archives.{count_of, placeAfter, statesFault, archiveVerdicts, archiveFault, part_of};
+ghost use Rattle.archive.specs.Archives.{count_of, place_after, states_fault, archive_verdicts, archive_fault, part_of};
 
 use crate::build::build;
 use crate::fault::{ArchiveFault, BitsFault, Field};
@@ -33,10 +33,10 @@ impl From<ArchiveFault> for Denial {
 
 // The place after m states that begin at a place, behind the first `done`.
 pub(crate) fn skip(archive: &[u8], at: usize, done: usize, m: usize) -> Result<usize, ArchiveFault>
-    requires { (at ≡ placeAfter archive.now done) × ((at ≤ 8 + done * 4096) × ((done + m ≤ 255) × (at ≤ 8 * length archive.now))) }
-    ensures { MatchResult result (λ q. (statesFault archive.now done m ≡ None)
-        × (q ≡ placeAfter archive.now (done + m)) × (q ≤ 8 + (done + m) * 4096) × (q ≤ 8 * length archive.now))
-        (λ f. statesFault archive.now done m ≡ Some f) }
+    requires { (at ≡ place_after archive.now done) × ((at ≤ 8 + done * 4096) × ((done + m ≤ 255) × (at ≤ 8 * length archive.now))) }
+    ensures { MatchResult result (λ q. (states_fault archive.now done m ≡ None)
+        × (q ≡ place_after archive.now (done + m)) × (q ≤ 8 + (done + m) * 4096) × (q ≤ 8 * length archive.now))
+        (λ f. states_fault archive.now done m ≡ Some f) }
 {
     let mut place = at;
     for i in 0..m {
@@ -50,8 +50,8 @@ pub(crate) fn skip(archive: &[u8], at: usize, done: usize, m: usize) -> Result<u
 
 // The count of an archive without a fault.
 pub(crate) fn counted(archive: &[u8]) -> Result<usize, ArchiveFault>
-    ensures { MatchResult result (λ n. (archiveFault archive.now ≡ None) × (n ≡ count_of archive.now) × (n ≤ 100)
-        × (0 < length archive.now)) (λ f. archiveFault archive.now ≡ Some f) }
+    ensures { MatchResult result (λ n. (archive_fault archive.now ≡ None) × (n ≡ count_of archive.now) × (n ≤ 100)
+        × (0 < length archive.now)) (λ f. archive_fault archive.now ≡ Some f) }
 {
     let [count, rest @ ..] = archive else {
         return Err(ArchiveFault::from(BitsFault {
@@ -72,10 +72,10 @@ pub(crate) fn counted(archive: &[u8]) -> Result<usize, ArchiveFault>
 
 // Checks a whole archive, and answers its count.
 pub fn check(archive: &[u8]) -> Result<u64, ArchiveFault>
-    ensures verdict { MatchResult result (λ n. (archiveFault archive.now ≡ None) × (n ≡ count_of archive.now))
-        (λ f. archiveFault archive.now ≡ Some f) }
-    ensures first { MatchResult result (λ _. Faultless (archiveVerdicts archive.now))
-        (First (archiveVerdicts archive.now)) }
+    ensures verdict { MatchResult result (λ n. (archive_fault archive.now ≡ None) × (n ≡ count_of archive.now))
+        (λ f. archive_fault archive.now ≡ Some f) }
+    ensures first { MatchResult result (λ _. Faultless (archive_verdicts archive.now))
+        (First (archive_verdicts archive.now)) }
 {
     match counted(archive) {
         Ok(count) => Ok(count as u64),
@@ -85,9 +85,9 @@ pub fn check(archive: &[u8]) -> Result<u64, ArchiveFault>
 
 // Checks a whole archive, and answers the bytes from which on and up to which its state with the number stands.
 fn locate(archive: &[u8], i: u64) -> Result<(usize, usize), Denial>
-    ensures { MatchResult result (λ s. (denied archive.now i ≡ None) × (8 * s.0 ≡ placeAfter archive.now (i - 1))
-        × (8 * s.1 ≡ placeAfter archive.now i) × (s.0 ≤ s.1) × (s.1 ≤ length archive.now) × (s.0 ≤ 2 ^ 20)
-        × (stateFault archive.now (placeAfter archive.now (i - 1)) ≡ None))
+    ensures { MatchResult result (λ s. (denied archive.now i ≡ None) × (8 * s.0 ≡ place_after archive.now (i - 1))
+        × (8 * s.1 ≡ place_after archive.now i) × (s.0 ≤ s.1) × (s.1 ≤ length archive.now) × (s.0 ≤ 2 ^ 20)
+        × (state_fault archive.now (place_after archive.now (i - 1)) ≡ None))
         (λ d. denied archive.now i ≡ Some d) }
 {
     let count = counted(archive)?;
@@ -114,7 +114,7 @@ pub fn view<'a>(archive: &'a [u8], i: u64) -> Result<&'a [u8], Denial>
 // Reads the state with the number from an archive; denied, the state stays as it was.
 pub fn take(state: &mut StabilizerState, archive: &[u8], i: u64) -> Result<(), Denial>
     ensures verdict { MatchResult result (λ _. denied archive.now i ≡ None) (λ d. denied archive.now i ≡ Some d) }
-    ensures state { MatchResult result (λ _. Holds archive.now (placeAfter archive.now (i - 1)) state.new)
+    ensures state { MatchResult result (λ _. Holds archive.now (place_after archive.now (i - 1)) state.new)
         (λ _. state.new ≡ state.old) }
 {
     match locate(archive, i) {

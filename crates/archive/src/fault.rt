@@ -2,7 +2,7 @@
 ghost use Rattle.std.specs.Prelude.{◌≡◌};
 ghost use Rattle.archive.specs.declared.fault.StateFault.TheVariants.{Bits};
 ghost use Rattle.archive.specs.declared.fault.ArchiveFault.TheVariants.{State, Short};
-ghost use Rattle.archive.specs.Faults.{fieldNumber, ruleNumber, numbered, bitsReport, stateReport, archiveReport};
+ghost use Rattle.archive.specs.Faults.{field_number, rule_number, numbered, bits_report, state_report, archive_report};
 
 // The number of the fault that the bytes end inside a field, and the layers.
 const CUT_SHORT: u64 = 1;
@@ -31,7 +31,7 @@ pub enum Field {
 
 impl Field {
     pub fn number(self) -> u64
-        ensures { result ≡ fieldNumber self }
+        ensures { result ≡ field_number self }
     {
         match self {
             Field::Count => 0,
@@ -62,7 +62,7 @@ pub enum Rule {
 
 impl Rule {
     pub fn number(self) -> u64
-        ensures { result ≡ ruleNumber self }
+        ensures { result ≡ rule_number self }
     {
         match self {
             Rule::QubitRange => 2,
@@ -84,25 +84,25 @@ pub struct BitsFault {
 
 impl BitsFault {
     pub fn number(self) -> u64
-        ensures { result ≡ (bitsReport self).number }
+        ensures { result ≡ (bits_report self).number }
     {
         CUT_SHORT
     }
 
     pub fn layer(self) -> u64
-        ensures { result ≡ (bitsReport self).layer }
+        ensures { result ≡ (bits_report self).layer }
     {
         BITS_LAYER
     }
 
     pub fn field(self) -> u64
-        ensures { result ≡ (bitsReport self).field }
+        ensures { result ≡ (bits_report self).field }
     {
         self.field.number()
     }
 
     pub fn place(self) -> usize
-        ensures { result ≡ (bitsReport self).place }
+        ensures { result ≡ (bits_report self).place }
     {
         self.place
     }
@@ -129,7 +129,7 @@ impl From<BitsFault> for StateFault {
 
 impl StateFault {
     pub fn number(self) -> u64
-        ensures { result ≡ (stateReport self).number }
+        ensures { result ≡ (state_report self).number }
     {
         match self {
             StateFault::Bits(fault) => fault.number(),
@@ -142,7 +142,7 @@ impl StateFault {
     }
 
     pub fn layer(self) -> u64
-        ensures { result ≡ (stateReport self).layer }
+        ensures { result ≡ (state_report self).layer }
     {
         match self {
             StateFault::Bits(fault) => fault.layer(),
@@ -155,7 +155,7 @@ impl StateFault {
     }
 
     pub fn field(self) -> u64
-        ensures { result ≡ (stateReport self).field }
+        ensures { result ≡ (state_report self).field }
     {
         match self {
             StateFault::Bits(fault) => fault.field(),
@@ -168,7 +168,7 @@ impl StateFault {
     }
 
     pub fn place(self) -> usize
-        ensures { result ≡ (stateReport self).place }
+        ensures { result ≡ (state_report self).place }
     {
         match self {
             StateFault::Bits(fault) => fault.place(),
@@ -221,7 +221,7 @@ impl ArchiveFault {
     }
 
     pub fn number(self) -> u64
-        ensures { result ≡ (archiveReport self).number }
+        ensures { result ≡ (archive_report self).number }
     {
         match self {
             ArchiveFault::State { sheet: _, fault } => fault.number(),
@@ -232,7 +232,7 @@ impl ArchiveFault {
     }
 
     pub fn layer(self) -> u64
-        ensures { result ≡ (archiveReport self).layer }
+        ensures { result ≡ (archive_report self).layer }
     {
         match self {
             ArchiveFault::State { sheet: _, fault } => fault.layer(),
@@ -243,7 +243,7 @@ impl ArchiveFault {
     }
 
     pub fn sheet(self) -> u64
-        ensures { result ≡ (archiveReport self).sheet }
+        ensures { result ≡ (archive_report self).sheet }
     {
         match self {
             ArchiveFault::State { sheet, fault: _ } => sheet,
@@ -254,7 +254,7 @@ impl ArchiveFault {
     }
 
     pub fn field(self) -> u64
-        ensures { result ≡ (archiveReport self).field }
+        ensures { result ≡ (archive_report self).field }
     {
         match self {
             ArchiveFault::State { sheet: _, fault } => fault.field(),
@@ -265,7 +265,7 @@ impl ArchiveFault {
     }
 
     pub fn place(self) -> usize
-        ensures { result ≡ (archiveReport self).place }
+        ensures { result ≡ (archive_report self).place }
     {
         match self {
             ArchiveFault::State { sheet: _, fault } => fault.place(),

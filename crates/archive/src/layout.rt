@@ -1,8 +1,8 @@
 // Whether the bits from a place on are those of a state: field by field, up to the first fault.
 ghost use Rattle.std.specs.Prelude.{◌≡◌, ℕ, ◌+◌, ◌-◌, ◌*◌, ◌/◌, ◌%◌, ◌^◌, ◌<◌, ◌≤◌, ◌&&◌, ltb, [], ◌∷◌, length, if◌then◌else◌, Some, None, MatchResult, ◌==◌, bit_and, nat_lt};
-ghost use Rattle.archive.specs.Bits.{bitsAt};
-ghost use Rattle.archive.specs.Layout.{free, ranged, rows, shift, copies, lead, offLeads, size_at, rank_at, header};
-ghost use Rattle.archive.specs.Layout.{firstFault, stateFault, stateEnd};
+ghost use Rattle.archive.specs.Bits.{bits_from};
+ghost use Rattle.archive.specs.Layout.{free, ranged, rows, shift, copies, lead, off_leads, size_at, rank_at, header};
+ghost use Rattle.archive.specs.Layout.{first_fault, state_fault, end_of_state};
 
 use crate::bits::{demand, number_at};
 use crate::fault::{Field, Rule, StateFault};
@@ -18,9 +18,9 @@ fn number_in(
     rule: Rule,
 ) -> Result<u64, StateFault>
     requires { (width ≤ 64) × (at ≤ 2 ^ 32) }
-    ensures { MatchResult result (λ v. (firstFault bytes.now at (ranged field width low high rule ∷ []) ≡ None)
-        × (v ≡ bitsAt bytes.now at width) × (low ≤ v) × (v ≤ high) × (at + width ≤ 8 * length bytes.now))
-        (λ f. firstFault bytes.now at (ranged field width low high rule ∷ []) ≡ Some f) }
+    ensures { MatchResult result (λ v. (first_fault bytes.now at (ranged field width low high rule ∷ []) ≡ None)
+        × (v ≡ bits_from bytes.now at width) × (low ≤ v) × (v ≤ high) × (at + width ≤ 8 * length bytes.now))
+        (λ f. first_fault bytes.now at (ranged field width low high rule ∷ []) ≡ Some f) }
 {
     let value = number_at(bytes, at, width, field)?;
     if value < low || value > high {
@@ -42,8 +42,8 @@ fn several(
     field: Field,
 ) -> Result<usize, StateFault>
     requires { (width ≤ 2) × ((count ≤ 2048) × (start ≤ 2 ^ 31 + 2 ^ 12)) }
-    ensures { MatchResult result (λ q. (firstFault bytes.now start (copies count (free field width)) ≡ None)
-        × (q ≡ start + count * width)) (λ f. firstFault bytes.now start (copies count (free field width)) ≡ Some f) }
+    ensures { MatchResult result (λ q. (first_fault bytes.now start (copies count (free field width)) ≡ None)
+        × (q ≡ start + count * width)) (λ f. first_fault bytes.now start (copies count (free field width)) ≡ Some f) }
 {
     let mut at = start;
     for i in 0..count {
@@ -56,9 +56,9 @@ fn several(
 // The number of qubits and the dimension, from the fields before the rows.
 fn header(bytes: &[u8], start: usize) -> Result<(usize, usize), StateFault>
     requires { start ≤ 2 ^ 31 }
-    ensures { MatchResult result (λ s. (firstFault bytes.now start (header s.0) ≡ None)
+    ensures { MatchResult result (λ s. (first_fault bytes.now start (header s.0) ≡ None)
         × (s.0 ≡ size_at bytes.now start) × (s.1 ≡ rank_at bytes.now start) × (s.0 ≤ 48) × (s.1 ≤ s.0))
-        (λ f. firstFault bytes.now start (header (size_at bytes.now start)) ≡ Some f) }
+        (λ f. first_fault bytes.now start (header (size_at bytes.now start)) ≡ Some f) }
 {
     let n = number_in(bytes, start, 6, Field::Qubits, 1, 48, Rule::QubitRange)?;
     let k = number_in(
@@ -100,9 +100,9 @@ fn pivot_of(row: u64, bound: usize, taken: u64) -> Option<usize>
 // The pivots of the rows, as a mask.
 fn pivots(bytes: &[u8], start: usize, n: usize, k: usize) -> Result<u64, StateFault>
     requires { (start ≤ 2 ^ 31) × ((n ≤ 48) × (k ≤ n)) }
-    ensures { MatchResult result (λ m. (firstFault bytes.now (start + 28) (rows bytes.now start n 0 k) ≡ None)
-        × ((v : ℕ) → offLeads bytes.now start n v k ≡ (bit_and v m == 0)))
-        (λ f. firstFault bytes.now (start + 28) (rows bytes.now start n 0 k) ≡ Some f) }
+    ensures { MatchResult result (λ m. (first_fault bytes.now (start + 28) (rows bytes.now start n 0 k) ≡ None)
+        × ((v : ℕ) → off_leads bytes.now start n v k ≡ (bit_and v m == 0)))
+        (λ f. first_fault bytes.now (start + 28) (rows bytes.now start n 0 k) ≡ Some f) }
 {
     let mut above = 64;
     let mut seen = 0;
@@ -127,10 +127,10 @@ fn pivots(bytes: &[u8], start: usize, n: usize, k: usize) -> Result<u64, StateFa
 
 // Whether the shift after k rows is all there and has a 0 at each of their pivots.
 fn shift_fits(bytes: &[u8], start: usize, n: usize, k: usize, leads: u64) -> Result<(), StateFault>
-    requires { (start ≤ 2 ^ 31) × ((n ≤ 48) × ((k ≤ n) × (((v : ℕ) → offLeads bytes.now start n v k ≡ (bit_and v leads == 0))))) }
-    ensures { MatchResult result (λ _. firstFault bytes.now (start + 28 + k * n)
+    requires { (start ≤ 2 ^ 31) × ((n ≤ 48) × ((k ≤ n) × (((v : ℕ) → off_leads bytes.now start n v k ≡ (bit_and v leads == 0))))) }
+    ensures { MatchResult result (λ _. first_fault bytes.now (start + 28 + k * n)
         (shift bytes.now start n k ∷ []) ≡ None)
-        (λ f. firstFault bytes.now (start + 28 + k * n) (shift bytes.now start n k ∷ []) ≡ Some f) }
+        (λ f. first_fault bytes.now (start + 28 + k * n) (shift bytes.now start n k ∷ []) ≡ Some f) }
 {
     let at = start + 28 + k * n;
     let value = number_at(bytes, at, n, Field::Shift)?;
@@ -147,8 +147,8 @@ fn shift_fits(bytes: &[u8], start: usize, n: usize, k: usize, leads: u64) -> Res
 // Whether a state stands at the start, without a fault; then the place where it ends.
 pub(crate) fn state_end(bytes: &[u8], start: usize) -> Result<usize, StateFault>
     requires { start ≤ 2 ^ 31 }
-    ensures { MatchResult result (λ q. (stateFault bytes.now start ≡ None) × (q ≡ stateEnd bytes.now start)
-        × (q ≤ start + 4096) × (q ≤ 8 * length bytes.now)) (λ f. stateFault bytes.now start ≡ Some f) }
+    ensures { MatchResult result (λ q. (state_fault bytes.now start ≡ None) × (q ≡ end_of_state bytes.now start)
+        × (q ≤ start + 4096) × (q ≤ 8 * length bytes.now)) (λ f. state_fault bytes.now start ≡ Some f) }
 {
     let (n, k) = header(bytes, start)?;
     let leads = pivots(bytes, start, n, k)?;

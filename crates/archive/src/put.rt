@@ -1,11 +1,11 @@
 // The fields of a state, put into a buffer one after another.
 ghost use Rattle.std.specs.Prelude.{◌≡◌, ℕ, suc, ◌+◌, ◌-◌, ◌*◌, ◌/◌, ◌^◌, ◌<◌, ◌≤◌, length, count_ones, slice_index};
 ghost use Rattle.quadratic.specs.Echelon.{row};
-ghost use Rattle.quadratic.specs.Fields.{linearAt};
+ghost use Rattle.quadratic.specs.Fields.{coefficient_at};
 ghost use Rattle.quadratic.specs.Quadratic.{link};
-ghost use Rattle.archive.specs.Bits.{bitsAt, Framed};
-ghost use Rattle.archive.specs.Held.{linearPlace, couplingPlace};
-ghost use Rattle.archive.specs.Layout.{bitCount, padded, padding};
+ghost use Rattle.archive.specs.Bits.{bits_from, Framed};
+ghost use Rattle.archive.specs.Held.{linear_place, place_of_coupling};
+ghost use Rattle.archive.specs.Layout.{bits_before_fill, padded, padding};
 ghost use Rattle.archive.specs.Writes.{Falling, HeaderPut, RowsPut, FormPut};
 
 use crate::bits::put_bits;
@@ -35,7 +35,7 @@ fn put_all(buffer: &mut [u8], at: usize, width: usize, values: &[u64; 48], from:
     requires near { (at + (to - from) * width ≤ 8 * length buffer.old) × ((width ≤ 64) × ((at ≤ 2 ^ 31) × ((from ≤ to) × (to ≤ 48)))) }
     requires low { (j : ℕ) → from ≤ j → j < to → slice_index values.now j < 2 ^ width }
     ensures there { (j : ℕ) → from ≤ j → j < to
-        → bitsAt buffer.new (at + (j - from) * width) width ≡ slice_index values.now j }
+        → bits_from buffer.new (at + (j - from) * width) width ≡ slice_index values.now j }
     ensures framed { Framed buffer.old buffer.new at (at + (to - from) * width) }
 {
     for j in from..to {
@@ -58,7 +58,7 @@ fn rows_of(body: &PhasedSpace, leads: &[usize; 48], k: usize) -> [u64; 48]
 // Half the linear coefficients of the rows with the pivots in a table.
 fn halves_of(body: &PhasedSpace, leads: &[usize; 48], k: usize) -> [u64; 48]
     requires { k ≤ 48 }
-    ensures { (((j : ℕ) → j < k → (2 * slice_index result j ≡ linearAt body.now (slice_index leads.now j))
+    ensures { (((j : ℕ) → j < k → (2 * slice_index result j ≡ coefficient_at body.now (slice_index leads.now j))
         × (slice_index result j < 4))) × (length result ≡ 48) }
 {
     let mut values = [0; 48];
@@ -108,10 +108,10 @@ fn put_rows(buffer: &mut [u8], n: usize, k: usize, leads: &[usize; 48], body: &P
 
 // Puts the linear coefficients.
 fn put_linear(buffer: &mut [u8], n: usize, k: usize, leads: &[usize; 48], body: &PhasedSpace)
-    requires { (n ≤ 48) × ((k ≤ n) × (linearPlace 0 n k k ≤ 8 * length buffer.old)) }
+    requires { (n ≤ 48) × ((k ≤ n) × (linear_place 0 n k k ≤ 8 * length buffer.old)) }
     ensures there { (a : ℕ) → a < k
-        → 2 * bitsAt buffer.new (linearPlace 0 n k a) 2 ≡ linearAt body.now (slice_index leads.now a) }
-    ensures framed { Framed buffer.old buffer.new (linearPlace 0 n k 0) (linearPlace 0 n k k) }
+        → 2 * bits_from buffer.new (linear_place 0 n k a) 2 ≡ coefficient_at body.now (slice_index leads.now a) }
+    ensures framed { Framed buffer.old buffer.new (linear_place 0 n k 0) (linear_place 0 n k k) }
 {
     let halves = halves_of(body, leads, k);
     put_all(buffer, 28 + k * n + n, 2, &halves, 0, k);
@@ -126,12 +126,12 @@ fn put_coupling_row(
     leads: &[usize; 48],
     body: &PhasedSpace,
 )
-    requires { (n ≤ 48) × ((k ≤ n) × ((a < k) × (bitCount n k ≤ 8 * length buffer.old))) }
+    requires { (n ≤ 48) × ((k ≤ n) × ((a < k) × (bits_before_fill n k ≤ 8 * length buffer.old))) }
     ensures there { (c : ℕ) → a < c → c < k
-        → bitsAt buffer.new (couplingPlace 0 n k a c) 1 ≡ link body.now.form.coupling
+        → bits_from buffer.new (place_of_coupling 0 n k a c) 1 ≡ link body.now.form.coupling
         (slice_index leads.now a) (slice_index leads.now c) }
-    ensures framed { Framed buffer.old buffer.new (couplingPlace 0 n k a (suc a))
-        (couplingPlace 0 n k (suc a) (suc (suc a))) }
+    ensures framed { Framed buffer.old buffer.new (place_of_coupling 0 n k a (suc a))
+        (place_of_coupling 0 n k (suc a) (suc (suc a))) }
 {
     let links = links_of(body, leads, k, a);
     put_all(buffer, coupling_place(0, n, k, a), 1, &links, a + 1, k);
@@ -139,11 +139,11 @@ fn put_coupling_row(
 
 // Puts the couplings of all rows.
 fn put_couplings(buffer: &mut [u8], n: usize, k: usize, leads: &[usize; 48], body: &PhasedSpace)
-    requires { (n ≤ 48) × ((k ≤ n) × (bitCount n k ≤ 8 * length buffer.old)) }
+    requires { (n ≤ 48) × ((k ≤ n) × (bits_before_fill n k ≤ 8 * length buffer.old)) }
     ensures there { (a c : ℕ) → a < c → c < k
-        → bitsAt buffer.new (couplingPlace 0 n k a c) 1 ≡ link body.now.form.coupling
+        → bits_from buffer.new (place_of_coupling 0 n k a c) 1 ≡ link body.now.form.coupling
         (slice_index leads.now a) (slice_index leads.now c) }
-    ensures framed { Framed buffer.old buffer.new (linearPlace 0 n k k) (bitCount n k) }
+    ensures framed { Framed buffer.old buffer.new (linear_place 0 n k k) (bits_before_fill n k) }
 {
     for a in 0..k {
         put_coupling_row(buffer, n, k, a, leads, body);
@@ -153,7 +153,7 @@ fn put_couplings(buffer: &mut [u8], n: usize, k: usize, leads: &[usize; 48], bod
 // How many bits a state takes before the fill.
 pub(crate) fn bit_count(n: usize, k: usize) -> usize
     requires { (n ≤ 48) × (k ≤ n) }
-    ensures { (result ≡ bitCount n k) × ((result ≤ 3604) × (28 + n ≤ result)) }
+    ensures { (result ≡ bits_before_fill n k) × ((result ≤ 3604) × (28 + n ≤ result)) }
 {
     28 + k * n + n + k * 2 + k * k.saturating_sub(1) / 2
 }
@@ -167,13 +167,13 @@ pub(crate) fn put_fields(
     leads: &[usize; 48],
     body: &PhasedSpace,
 )
-    requires near { (n ≤ 48) × ((k ≤ n) × ((loss ≤ 4096) × (padded (bitCount n k) ≤ 8 * length buffer.old))) }
+    requires near { (n ≤ 48) × ((k ≤ n) × ((loss ≤ 4096) × (padded (bits_before_fill n k) ≤ 8 * length buffer.old))) }
     requires low { (((a : ℕ) → a < k → row body.now.space.rows (slice_index leads.now a) < 2 ^ n)) × (body.now.space.shift < 2 ^ n) }
     ensures header { HeaderPut buffer.new n k loss body.now.form.phase }
     ensures rows { RowsPut buffer.new n k leads.now body.now }
     ensures form { FormPut buffer.new n k leads.now body.now }
-    ensures fill { bitsAt buffer.new (bitCount n k) (padding (bitCount n k)) ≡ 0 }
-    ensures framed { Framed buffer.old buffer.new 0 (padded (bitCount n k)) }
+    ensures fill { bits_from buffer.new (bits_before_fill n k) (padding (bits_before_fill n k)) ≡ 0 }
+    ensures framed { Framed buffer.old buffer.new 0 (padded (bits_before_fill n k)) }
 {
     put_header(buffer, n as u64, k as u64, loss, body.phase());
     put_rows(buffer, n, k, leads, body);

@@ -36,15 +36,15 @@ zeros y = nil
 
 bar-plus : (x y : Omega) → bar (x ⊕ y) ≡ bar x ⊕ bar y
 unfolding omegas
-bar-plus = (conj-hom int_laws).plus-to
+bar-plus = (conj-hom int_laws).plus_to
 
 pub bar-times : (x y : Omega) → bar (x ⊗ y) ≡ bar x ⊗ bar y
 unfolding omegas
-bar-times = (conj-hom int_laws).times-to
+bar-times = (conj-hom int_laws).times_to
 
 pub bar-one : bar one ≡ one
 unfolding omegas
-bar-one = (conj-hom int_laws).one-to
+bar-one = (conj-hom int_laws).one_to
 
 pub bar-two : bar (two omegas) ≡ two omegas
 bar-two = bar-plus one one ∙ ap₂ ◌⊕◌ bar-one bar-one
@@ -57,7 +57,7 @@ module _ (n : ℕ) where
 
   inner-plus-right : (t s v : Vector) → inner n t (λ y. s y ⊕ v y) ≡ inner n t s ⊕ inner n t v
   inner-plus-right t s v =
-      Sums.sum_same laws _ _ (2 ^ n) (λ y l. laws.times-plus (bar (t y)) (s y) (v y)) ∙ Sums.sum-plus laws _ _ (2 ^ n)
+      Sums.sum_same laws _ _ (2 ^ n) (λ y l. laws.times_plus (bar (t y)) (s y) (v y)) ∙ Sums.sum-plus laws _ _ (2 ^ n)
 
   inner-plus-left : (t u v : Vector) → inner n (λ y. t y ⊕ u y) v ≡ inner n t v ⊕ inner n u v
   inner-plus-left t u v =
@@ -68,15 +68,15 @@ module _ (n : ℕ) where
   pub inner-times : (a b : Omega) (t s : Vector) → inner n (times-all a t) (times-all b s) ≡ (bar a ⊗ b) ⊗ inner n t s
   inner-times a b t s =
       Sums.sum_same laws _ _ (2 ^ n)
-      (λ y l. ap (λ c. c ⊗ (b ⊗ s y)) (bar-times a (t y)) ∙ CommFacts.times-middle laws (bar a) (bar (t y)) b (s y))
+      (λ y l. ap (λ c. c ⊗ (b ⊗ s y)) (bar-times a (t y)) ∙ CommFacts.times_middle laws (bar a) (bar (t y)) b (s y))
       ∙ Sums.sum-times laws (bar a ⊗ b) _ (2 ^ n)
 
   pub inner-zeros-right : (t v : Vector) → Same n v zeros → inner n t v ≡ nil
-  inner-zeros-right t v h = Sums.sum-nil laws _ (2 ^ n) (λ y l. ap (◌⊗◌ (bar (t y))) (h y l) ∙ CommFacts.times-nil laws _)
+  inner-zeros-right t v h = Sums.sum-nil laws _ (2 ^ n) (λ y l. ap (◌⊗◌ (bar (t y))) (h y l) ∙ CommFacts.times_nil laws _)
 
   pub inner-zeros-left : (t v : Vector) → Same n t zeros → inner n t v ≡ nil
   inner-zeros-left t v h =
-      Sums.sum-nil laws _ (2 ^ n) (λ y l. ap (λ a. a ⊗ v y) (ap bar (h y l) ∙ bar-nil) ∙ CommFacts.nil-times laws (v y))
+      Sums.sum-nil laws _ (2 ^ n) (λ y l. ap (λ a. a ⊗ v y) (ap bar (h y l) ∙ bar-nil) ∙ CommFacts.nil_times laws (v y))
 
 -- ---- maps and their adjoints
 
@@ -93,16 +93,16 @@ module _ (n : ℕ) where
   pub adjoint-applied : (M N : Monomial) → Opposite n M N → Adjoint n (applied M) (applied N)
   adjoint-applied M N op = record {
     same = λ v u h y l. ap (◌⊗◌ (wpow omegas (M.turn y))) (h (M.move y) (op.inside y l));
-    scales = λ a v y l. CommFacts.times-left-comm laws (wpow omegas (M.turn y)) a (v (M.move y));
+    scales = λ a v y l. CommFacts.times_left_comm laws (wpow omegas (M.turn y)) a (v (M.move y));
     moves = λ t v.
         sym (Sums.involute laws M.move (2 ^ n) (λ y. bar (t y) ⊗ applied M v y) op.inside (λ y l. op.back y))
         ∙ Sums.sum_same laws _ _ (2 ^ n) (λ y l. ap (λ x. bar (t (M.move y)) ⊗ (wpow omegas (M.turn (M.move y)) ⊗ v x)) (op.back y)
-        ∙ sym (laws.times-assoc _ _ _) ∙ ap (λ a. a ⊗ v y) (factor t y));
+        ∙ sym (laws.times_assoc _ _ _) ∙ ap (λ a. a ⊗ v y) (factor t y));
   }
     where
       factor : (t : Vector) (y : ℕ) → bar (t (M.move y)) ⊗ wpow omegas (M.turn (M.move y)) ≡ bar (applied N t y)
       factor t y =
-          laws.times-comm _ _
+          laws.times_comm _ _
           ∙ sym (ap₂ ◌⊗◌ (bar-wpow (N.turn y) (M.turn (M.move y)) (op.undone y)) (ap (λ x. bar (t x)) (op.together y)))
           ∙ sym (bar-times _ _)
 
@@ -110,7 +110,7 @@ module _ (n : ℕ) where
       → Adjoint n (λ v y. f v y ⊕ f' v y) (λ v y. g v y ⊕ g' v y)
   adjoint-plus f g f' g' p q = record {
     same = λ v u h y l. ap₂ ◌⊕◌ (p.same v u h y l) (q.same v u h y l);
-    scales = λ a v y l. ap₂ ◌⊕◌ (p.scales a v y l) (q.scales a v y l) ∙ sym (laws.times-plus a _ _);
+    scales = λ a v y l. ap₂ ◌⊕◌ (p.scales a v y l) (q.scales a v y l) ∙ sym (laws.times_plus a _ _);
     moves = λ t v. inner-plus-right n t (f v) (f' v) ∙ ap₂ ◌⊕◌ (p.moves t v) (q.moves t v) ∙ sym (inner-plus-left n (g t) (g' t) v);
   }
 
@@ -124,5 +124,5 @@ module _ (n : ℕ) where
 
   pub adjoint-zeros : (f g : Vector → Vector) → Adjoint n f g → (v : Vector) → Same n v zeros → Same n (f v) zeros
   adjoint-zeros f g p v h y l =
-      p.same v (times-all nil v) (λ x i. h x i ∙ sym (CommFacts.nil-times laws (v x))) y l ∙ p.scales nil v y l
-      ∙ CommFacts.nil-times laws _
+      p.same v (times-all nil v) (λ x i. h x i ∙ sym (CommFacts.nil_times laws (v x))) y l ∙ p.scales nil v y l
+      ∙ CommFacts.nil_times laws _

@@ -9,10 +9,10 @@ use Rattle.cyclotomic.specs.Exact.{scaled}
 use Rattle.cyclotomic.specs.Ring.{two, wpow}
 use Rattle.cyclotomic.specs.Scalars.{Triple, Kind}
 use Rattle.cyclotomic.proofs.Exact.{bar, Floor, scaled-nought, scaled-turn, scaled-same}
-use Rattle.stabilizer.specs.Calls.{Call, gate, project, Step, rotated, rotatedBy, Applied, AppliedBy, ProjectedBy}
+use Rattle.stabilizer.specs.Calls.{Call, gate, project, Step, rotated, rotated_by, Applied, AppliedBy, ProjectedBy}
 use Rattle.stabilizer.specs.Calls.{Projected, impossible, exhausted, kept, halved}
-use Rattle.stabilizer.specs.Gates.{takes, gateOf, operandsNumber, gateMatrix}
-use Rattle.stabilizer.specs.Paulis.{Pauli, pauliOf, readNumber, textNumber}
+use Rattle.stabilizer.specs.Gates.{takes, gate_numbered, operands_number, gate_matrix}
+use Rattle.stabilizer.specs.Paulis.{Pauli, pauli_of, read_number, text_number}
 use Rattle.stabilizer.specs.Vectors.{entry, inner}
 use Rattle.stabilizer.specs.declared.gate.Gate.{Gate}
 use Rattle.stabilizer.specs.declared.state.StabilizerState.{StabilizerState}
@@ -47,27 +47,27 @@ abbrev Follows : ℕ → Bool → Omega → Vector → StabilizerState → Type 
 Follows n lost a v s = (s.qubits ≡ n) × cond lost (Same n v zeros) (Same n (times-all a (entry s)) v)
 
 still : (s s' : StabilizerState) → s' ≡ s → Follows s.qubits false one (entry s) s'
-still s s' e = (ap (λ x. x.qubits) e, λ y l. CommFacts.one-times laws _ ∙ ap (λ x. entry x y) e)
+still s s' e = (ap (λ x. x.qubits) e, λ y l. CommFacts.one_times laws _ ∙ ap (λ x. entry x y) e)
 
 -- the exact value of a scalar turned by ω^k
 entry-rotated : (n k : ℕ) (x : Triple) → scaled n (rotated k x) ≡ wpow omegas k ⊗ scaled n x
 unfolding scaled
 entry-rotated n k x = go x.0 x.1 x.2
   where
-    go : (e : ℕ) (p : ℤ) (m : ℕ) → scaled n (rotatedBy e p m k) ≡ wpow omegas k ⊗ scaled n (e, p, m)
-    go zero p m = sym (CommFacts.times-nil laws (wpow omegas k))
+    go : (e : ℕ) (p : ℤ) (m : ℕ) → scaled n (rotated_by e p m k) ≡ wpow omegas k ⊗ scaled n (e, p, m)
+    go zero p m = sym (CommFacts.times_nil laws (wpow omegas k))
     go (suc e) p m = scaled-turn n (suc e) p m k ((m + k) % 8) (mod-mod (m + k) 8)
 
-gate-follows : (s s' : StabilizerState) (j l : ℕ) (o : Option Gate) → (operandsNumber o s.qubits j l ≡ 0 → AppliedBy o j l s s')
-    → (0 < operandsNumber o s.qubits j l → s' ≡ s)
-    → Follows s.qubits (eqb (operandsNumber o s.qubits j l) 21) (scale-by (operandsNumber o s.qubits j l) one)
-    (act_by (operandsNumber o s.qubits j l) (gate-map o s.qubits j l) (entry s)) s'
+gate-follows : (s s' : StabilizerState) (j l : ℕ) (o : Option Gate) → (operands_number o s.qubits j l ≡ 0 → AppliedBy o j l s s')
+    → (0 < operands_number o s.qubits j l → s' ≡ s)
+    → Follows s.qubits (eqb (operands_number o s.qubits j l) 21) (scale-by (operands_number o s.qubits j l) one)
+    (act_by (operands_number o s.qubits j l) (gate-map o s.qubits j l) (entry s)) s'
 gate-follows s s' j l (Some g) h i = go (takes g s.qubits j l) h i
   where
-    go : (b : Bool) → (◌≡◌ {A = ℕ} (cond b 0 10) 0 → Applied (gateMatrix s.qubits g j l) s s') → (0 < cond b 0 10 → s' ≡ s)
+    go : (b : Bool) → (◌≡◌ {A = ℕ} (cond b 0 10) 0 → Applied (gate_matrix s.qubits g j l) s s') → (0 < cond b 0 10 → s' ≡ s)
         → Follows s.qubits (eqb (cond b 0 10) 21) (scale-by (cond b 0 10) one)
         (act_by (cond b 0 10) (gate-map (Some g) s.qubits j l) (entry s)) s'
-    go true h i = ((h refl).qubits, λ y k. CommFacts.one-times laws _ ∙ ap (scaled 4144) ((h refl).amplitudes y) ∙ entry-rotated 4144 _ _)
+    go true h i = ((h refl).qubits, λ y k. CommFacts.one_times laws _ ∙ ap (scaled 4144) ((h refl).amplitudes y) ∙ entry-rotated 4144 _ _)
     go false h i = still s s' (i (omega arith))
 gate-follows s s' j l None h i = still s s' (i (omega arith))
 
@@ -84,10 +84,10 @@ text-follows s s' a zero (Some P) h p u = projected-follows P s a s' p u
 text-follows s s' a zero None h p u = absurd p
 text-follows s s' a (suc k) o h p u = rw (ne_eqb a 21 (λ e. let f = p.0 in omega arith)) (still s s' p.1)
 
-text-small : (n : ℕ) (text : List ℕ) → textNumber n text ≤ 12
-text-small n text = go (eqb (length text) (n + 1)) (pauliOf text)
+text-small : (n : ℕ) (text : List ℕ) → text_number n text ≤ 12
+text-small n text = go (eqb (length text) (n + 1)) (pauli_of text)
   where
-    go : (b : Bool) (o : Option Pauli) → cond b (readNumber o) 11 ≤ 12
+    go : (b : Bool) (o : Option Pauli) → cond b (read_number o) 11 ≤ 12
     go true (Some P) = omega arith
     go true None = omega arith
     go false o = omega arith
@@ -95,10 +95,10 @@ text-small n text = go (eqb (length text) (n + 1)) (pauliOf text)
 step_follows : (c : Call) (s : StabilizerState) (a : ℕ) (s' : StabilizerState) → Step c s a s' → eqb a 22 ≡ false
     → Follows s.qubits (eqb a 21) (weight s.qubits c) (step s.qubits c (entry s)) s'
 step_follows (gate kind j l) s a s' h u =
-    rw h.number (gate-follows s s' j l (gateOf kind) (λ e. h.granted (h.number
+    rw h.number (gate-follows s s' j l (gate_numbered kind) (λ e. h.granted (h.number
     ∙ e)) (λ i. h.refused (subst (λ x. 0 < x) (sym h.number) i)))
 step_follows (project text) s a s' h u =
-    text-follows s s' a (textNumber s.qubits text) (pauliOf text) (text-small s.qubits text) h u
+    text-follows s s' a (text_number s.qubits text) (pauli_of text) (text-small s.qubits text) h u
 
 -- ---- whole runs
 
@@ -115,15 +115,15 @@ module _ (n : ℕ) where
       → Follows n (lost || lost') (weights n (c ∷ cs)) (all n (c ∷ cs) v) s'
   follows_next c cs v s s' true lost' h i = (i.0, adjoint-zeros n _ _ (all-adjoint n cs) (step n c v) h.1)
   follows_next c cs v s s' false true h i =
-      (i.0, λ y l. after c cs v s h.1 y l ∙ ap (◌⊗◌ (weight n c)) (i.1 y l) ∙ CommFacts.times-nil laws _)
+      (i.0, λ y l. after c cs v s h.1 y l ∙ ap (◌⊗◌ (weight n c)) (i.1 y l) ∙ CommFacts.times_nil laws _)
   follows_next c cs v s s' false false h i = (
     i.0,
-    λ y l. laws.times-assoc (weight n c) (weights n cs) (entry s' y) ∙ ap (◌⊗◌ (weight n c)) (i.1 y l) ∙ sym (after c cs v s h.1 y l),
+    λ y l. laws.times_assoc (weight n c) (weights n cs) (entry s' y) ∙ ap (◌⊗◌ (weight n c)) (i.1 y l) ∙ sym (after c cs v s h.1 y l),
   )
 
   run-follows : {cs : List Call} {s s' : StabilizerState} {xs : List ℕ} → Run cs s xs s' → s.qubits ≡ n → among 22 xs ≡ false
       → Follows n (among 21 xs) (weights n cs) (all n cs (entry s)) s'
-  run-follows done e u = (e, λ y l. CommFacts.one-times laws _)
+  run-follows done e u = (e, λ y l. CommFacts.one_times laws _)
   run-follows (next {c = c} {cs = cs} {s = s} {s' = s₁} {s'' = s₂} {a = a} {answers = xs} h r) e u =
       let (now, later) = or_parts (eqb a 22) (among 22 xs) u in
       let f : Follows n (eqb a 21) (weight n c) (step n c (entry s)) s₁ =
@@ -134,11 +134,11 @@ module _ (n : ℕ) where
   worth-follows : (a b : Omega) (v u : Vector) (s t : StabilizerState) (lost lost' : Bool) (x : Triple) → bar b ≡ b
       → Follows n lost a v s → Follows n lost' b u t → Worth (lost || lost') t s x → (a ⊗ b) ⊗ scaled 8288 x ≡ inner n u v
   worth-follows a b v u s t true lost' x real h i w =
-      ap (◌⊗◌ (a ⊗ b)) (ap (scaled 8288) w ∙ scaled-nought 8288) ∙ CommFacts.times-nil laws _ ∙ sym (inner-zeros-right n u v h.1)
+      ap (◌⊗◌ (a ⊗ b)) (ap (scaled 8288) w ∙ scaled-nought 8288) ∙ CommFacts.times_nil laws _ ∙ sym (inner-zeros-right n u v h.1)
   worth-follows a b v u s t false true x real h i w =
-      ap (◌⊗◌ (a ⊗ b)) (ap (scaled 8288) w ∙ scaled-nought 8288) ∙ CommFacts.times-nil laws _ ∙ sym (inner-zeros-left n u v i.1)
+      ap (◌⊗◌ (a ⊗ b)) (ap (scaled 8288) w ∙ scaled-nought 8288) ∙ CommFacts.times_nil laws _ ∙ sym (inner-zeros-left n u v i.1)
   worth-follows a b v u s t false false x real h i w =
-      ap₂ ◌⊗◌ (laws.times-comm a b ∙ ap (λ c. c ⊗ a) (sym real)) (w.exact ∙ ap (λ k. inner k (entry t) (entry s)) i.0)
+      ap₂ ◌⊗◌ (laws.times_comm a b ∙ ap (λ c. c ⊗ a) (sym real)) (w.exact ∙ ap (λ k. inner k (entry t) (entry s)) i.0)
       ∙ sym (inner-times n b a (entry t) (entry s)) ∙ inner-same n i.1 h.1
 
 -- the value of a division times the weights is the inner product of t and the ideal run of s
@@ -150,14 +150,14 @@ division-value calls place s t e d x w =
     let front = take place calls in
     let rest = drop place calls in
     let split : front ++ rest ≡ calls = take-append-drop place calls in
-    let (calm-s, calm-t) = or_parts _ _ (sym (among-append 22 d.answers-s d.answers-t) ∙ w.counts) in
+    let (calm-s, calm-t) = or_parts _ _ (sym (among-append 22 d.answers_s d.answers_t) ∙ w.counts) in
     let f = run-follows n d.forward refl calm-s in
     let g = run-follows n d.backward e calm-t in
-    let worth = subst (λ b. Worth b d.end-t d.end-s x) (among-append 21 d.answers-s d.answers-t) w.worth in
+    let worth = subst (λ b. Worth b d.end_t d.end_s x) (among-append 21 d.answers_s d.answers_t) w.worth in
     ap (λ a. a ⊗ scaled 8288 x) (ap (weights n) (sym split) ∙ weights-append n front rest
     ∙ ap (◌⊗◌ (weights n front)) (sym (weights-backwards n rest)))
-    ∙ worth-follows n (weights n front) (weights n (backwards rest)) (all n front (entry s)) (all n (backwards rest) (entry t)) d.end-s
-    d.end-t (among 21 d.answers-s) (among 21 d.answers-t) x (weights-factor n (backwards rest)).real f g worth
+    ∙ worth-follows n (weights n front) (weights n (backwards rest)) (all n front (entry s)) (all n (backwards rest) (entry t)) d.end_s
+    d.end_t (among 21 d.answers_s) (among 21 d.answers_t) x (weights-factor n (backwards rest)).real f g worth
     ∙ sym ((all-adjoint n rest).moves (entry t) (all n front (entry s)))
     ∙ ap (inner n (entry t)) (sym (all_append n front rest (entry s)) ∙ ap (λ cs. all n cs (entry s)) split)
 

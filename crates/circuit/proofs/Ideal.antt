@@ -8,12 +8,12 @@ use Rattle.cyclotomic.specs.CommFacts
 use Rattle.cyclotomic.specs.Ring.{two}
 use Rattle.cyclotomic.proofs.Exact.{bar}
 use Rattle.cyclotomic.proofs.Scalars.{double-same}
-use Rattle.stabilizer.specs.Calls.{Call, gate, project, applied, doubled, inputNumber}
-use Rattle.stabilizer.specs.Gates.{takes, gateOf, operandsNumber, gateMatrix}
-use Rattle.stabilizer.specs.Paulis.{Pauli, pauliOf}
+use Rattle.stabilizer.specs.Calls.{Call, gate, project, applied, doubled, input_number}
+use Rattle.stabilizer.specs.Gates.{takes, gate_numbered, operands_number, gate_matrix}
+use Rattle.stabilizer.specs.Paulis.{Pauli, pauli_of}
 use Rattle.stabilizer.proofs.Texts.{pauli-length, text-length}
 use Rattle.stabilizer.specs.declared.gate.Gate.{Gate}
-use Rattle.circuit.specs.Runs.{inverseKind, inverse, backwards}
+use Rattle.circuit.specs.Runs.{kind_inverse, inverse, backwards}
 use Rattle.circuit.proofs.Adjoint.{Vector, Adjoint, laws, bar-one, bar-two, bar-times, adjoint-none, adjoint-applied, adjoint-plus}
 use Rattle.circuit.proofs.Adjoint.{adjoint-then}
 use Rattle.stabilizer.proofs.Matrices.{inverseGate, takes-inverse, gate-opposite, pauli-opposite}
@@ -24,7 +24,7 @@ open omegas use {one, times as ◌⊗◌}
 -- ---- what one call makes of a vector, and what that is too large by
 
 abbrev pub gate-map : Option Gate → ℕ → ℕ → ℕ → Vector → Vector
-gate-map (Some g) n j l v = applied (gateMatrix n g j l) v
+gate-map (Some g) n j l v = applied (gate_matrix n g j l) v
 gate-map None n j l v = v
 
 abbrev pub pauli-map : Option Pauli → Vector → Vector
@@ -32,8 +32,8 @@ pauli-map (Some P) v = doubled P v
 pauli-map None v = v
 
 abbrev act : ℕ → Call → Vector → Vector
-act n (gate kind j l) = gate-map (gateOf kind) n j l
-act n (project text) = pauli-map (pauliOf text)
+act n (gate kind j l) = gate-map (gate_numbered kind) n j l
+act n (project text) = pauli-map (pauli_of text)
 
 abbrev scale : Call → Omega
 scale (gate kind j l) = one
@@ -50,10 +50,10 @@ scale-by (suc k) a = one
 
 module _ (n : ℕ) where
   abbrev pub step : Call → Vector → Vector
-  step c = act_by (inputNumber n c) (act n c)
+  step c = act_by (input_number n c) (act n c)
 
   abbrev pub weight : Call → Omega
-  weight c = scale-by (inputNumber n c) (scale c)
+  weight c = scale-by (input_number n c) (scale c)
 
   abbrev pub all : List Call → Vector → Vector
   all [] v = v
@@ -73,7 +73,7 @@ abbrev opposite : Option Gate → Option Gate
 opposite (Some g) = Some (inverseGate g)
 opposite None = None
 
-gate-inverse : (kind : ℕ) → gateOf (inverseKind kind) ≡ opposite (gateOf kind)
+gate-inverse : (kind : ℕ) → gate_numbered (kind_inverse kind) ≡ opposite (gate_numbered kind)
 gate-inverse zero = refl
 gate-inverse (suc zero) = refl
 gate-inverse (suc (suc zero)) = refl
@@ -95,12 +95,12 @@ gate-inverse (suc (suc (suc (suc (suc (suc (suc k))))))) =
     past : (i : ℕ) → i ≤ 6 → eqb (suc (suc (suc (suc (suc (suc (suc k))))))) i ≡ false
     past i h = ne_eqb _ i (λ e. omega arith)
 
-operands-inverse : (o : Option Gate) (n j l : ℕ) → operandsNumber (opposite o) n j l ≡ operandsNumber o n j l
+operands-inverse : (o : Option Gate) (n j l : ℕ) → operands_number (opposite o) n j l ≡ operands_number o n j l
 operands-inverse (Some g) n j l = ap (λ b. cond b 0 10) (takes-inverse g n j l)
 operands-inverse None n j l = refl
 
-number-inverse : (n : ℕ) (c : Call) → inputNumber n (inverse c) ≡ inputNumber n c
-number-inverse n (gate kind j l) = ap (λ o. operandsNumber o n j l) (gate-inverse kind) ∙ operands-inverse (gateOf kind) n j l
+number-inverse : (n : ℕ) (c : Call) → input_number n (inverse c) ≡ input_number n c
+number-inverse n (gate kind j l) = ap (λ o. operands_number o n j l) (gate-inverse kind) ∙ operands-inverse (gate_numbered kind) n j l
 number-inverse n (project text) = refl
 
 -- one call more in front is one more at the end, backwards
@@ -110,7 +110,7 @@ backwards-cons c cs = ap (map inverse) (reverse-cons c cs) ∙ map-append invers
 -- ---- the adjoint of a call's map is the map of its inverse
 
 module _ (n : ℕ) where
-  gate-adjoint : (j l : ℕ) (o : Option Gate) → operandsNumber o n j l ≡ 0 → Adjoint n (gate-map o n j l) (gate-map (opposite o) n j l)
+  gate-adjoint : (j l : ℕ) (o : Option Gate) → operands_number o n j l ≡ 0 → Adjoint n (gate-map o n j l) (gate-map (opposite o) n j l)
   gate-adjoint j l (Some g) e = adjoint-applied n _ _ (gate-opposite n g j l (taken (takes g n j l) e))
     where
       taken : (b : Bool) → ◌≡◌ {A = ℕ} (cond b 0 10) 0 → b ≡ true
@@ -122,17 +122,17 @@ module _ (n : ℕ) where
   pauli-adjoint (Some P) h = adjoint-plus n _ _ _ _ (adjoint-none n) (adjoint-applied n _ _ (pauli-opposite n P (h P refl)))
   pauli-adjoint None h = adjoint-none n
 
-  act-adjoint : (c : Call) → inputNumber n c ≡ 0 → Adjoint n (act n c) (act n (inverse c))
+  act-adjoint : (c : Call) → input_number n c ≡ 0 → Adjoint n (act n c) (act n (inverse c))
   act-adjoint (gate kind j l) e =
-      subst (λ o. Adjoint n (gate-map (gateOf kind) n j l) (gate-map o n j l)) (sym (gate-inverse kind)) (gate-adjoint j l (gateOf kind) e)
+      subst (λ o. Adjoint n (gate-map (gate_numbered kind) n j l) (gate-map o n j l)) (sym (gate-inverse kind)) (gate-adjoint j l (gate_numbered kind) e)
   act-adjoint (project text) e =
-      pauli-adjoint (pauliOf text) (λ P h. let a = pauli-length text P h in let b = text-length n text e in omega arith)
+      pauli-adjoint (pauli_of text) (λ P h. let a = pauli-length text P h in let b = text-length n text e in omega arith)
 
   step-adjoint : (c : Call) → Adjoint n (step n c) (step n (inverse c))
   step-adjoint c =
-      subst (λ k. Adjoint n (step n c) (act_by k (act n (inverse c)))) (sym (number-inverse n c)) (go (inputNumber n c) refl)
+      subst (λ k. Adjoint n (step n c) (act_by k (act n (inverse c)))) (sym (number-inverse n c)) (go (input_number n c) refl)
     where
-      go : (k : ℕ) → inputNumber n c ≡ k → Adjoint n (act_by k (act n c)) (act_by k (act n (inverse c)))
+      go : (k : ℕ) → input_number n c ≡ k → Adjoint n (act_by k (act n c)) (act_by k (act n (inverse c)))
       go zero e = act-adjoint c e
       go (suc k) e = adjoint-none n
 
@@ -154,14 +154,14 @@ module _ (n : ℕ) where
       same (project text) = refl
 
   pub weights-append : (cs ds : List Call) → weights n (cs ++ ds) ≡ weights n cs ⊗ weights n ds
-  weights-append [] ds = sym (CommFacts.one-times laws _)
-  weights-append (c ∷ cs) ds = ap (◌⊗◌ (weight n c)) (weights-append cs ds) ∙ sym (laws.times-assoc _ _ _)
+  weights-append [] ds = sym (CommFacts.one_times laws _)
+  weights-append (c ∷ cs) ds = ap (◌⊗◌ (weight n c)) (weights-append cs ds) ∙ sym (laws.times_assoc _ _ _)
 
   pub weights-backwards : (cs : List Call) → weights n (backwards cs) ≡ weights n cs
   weights-backwards [] = refl
   weights-backwards (c ∷ cs) =
       ap (weights n) (backwards-cons c cs) ∙ weights-append (backwards cs) (inverse c ∷ [])
-      ∙ ap₂ ◌⊗◌ (weights-backwards cs) (laws.times-one _ ∙ weight-inverse c) ∙ laws.times-comm _ _
+      ∙ ap₂ ◌⊗◌ (weights-backwards cs) (laws.times_one _ ∙ weight-inverse c) ∙ laws.times_comm _ _
 
   -- a factor that conjugation leaves, and that cancels
   pub record Factor (a : Omega) : Type 0 where
@@ -169,22 +169,22 @@ module _ (n : ℕ) where
     pub cancels : (x y : Omega) → a ⊗ x ≡ a ⊗ y → x ≡ y
 
   factor-one : Factor one
-  factor-one = record { real = bar-one; cancels = λ x y e. sym (CommFacts.one-times laws x) ∙ e ∙ CommFacts.one-times laws y }
+  factor-one = record { real = bar-one; cancels = λ x y e. sym (CommFacts.one_times laws x) ∙ e ∙ CommFacts.one_times laws y }
 
   factor-two : Factor (two omegas)
   factor-two = record {
     real = bar-two;
-    cancels = λ x y e. double-same x y (sym (CommFacts.two-times laws x) ∙ e ∙ CommFacts.two-times laws y);
+    cancels = λ x y e. double-same x y (sym (CommFacts.two_times laws x) ∙ e ∙ CommFacts.two_times laws y);
   }
 
   factor-times : (a b : Omega) → Factor a → Factor b → Factor (a ⊗ b)
   factor-times a b p q = record {
     real = bar-times a b ∙ ap₂ ◌⊗◌ p.real q.real;
-    cancels = λ x y e. q.cancels x y (p.cancels (b ⊗ x) (b ⊗ y) (sym (laws.times-assoc a b x) ∙ e ∙ laws.times-assoc a b y));
+    cancels = λ x y e. q.cancels x y (p.cancels (b ⊗ x) (b ⊗ y) (sym (laws.times_assoc a b x) ∙ e ∙ laws.times_assoc a b y));
   }
 
   weight-factor : (c : Call) → Factor (weight n c)
-  weight-factor c = go (inputNumber n c) c
+  weight-factor c = go (input_number n c) c
     where
       go : (k : ℕ) (c : Call) → Factor (scale-by k (scale c))
       go zero (gate kind j l) = factor-one

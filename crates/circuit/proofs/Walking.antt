@@ -5,8 +5,8 @@ use Rattle.std.proofs.lemmas.List.{take_more, drop_more, take_all, drop_all, tak
 use Rattle.std.proofs.lemmas.Bool.{cases_lt}
 use Rattle.cyclotomic.specs.Scalars.{Triple}
 use Rattle.stabilizer.specs.Calls.{Call, gate, project, Step, AppliedBy, ProjectedBy, Projected, impossible, exhausted, kept, halved}
-use Rattle.stabilizer.specs.Gates.{gateOf}
-use Rattle.stabilizer.specs.Paulis.{Pauli, pauliOf, textNumber}
+use Rattle.stabilizer.specs.Gates.{gate_numbered}
+use Rattle.stabilizer.specs.Paulis.{Pauli, pauli_of, text_number}
 use Rattle.stabilizer.specs.declared.gate.Gate.{Gate}
 use Rattle.stabilizer.specs.declared.state.StabilizerState.{StabilizerState}
 use Rattle.circuit.specs.Made.{call_of}
@@ -79,10 +79,10 @@ module _ (xs : List Held) (place k : ℕ) (inside : place < length xs → k ≡ 
   abbrev divided : (s t s' t' : StabilizerState) (m m' : Met) → Ran (map call_of (take k xs)) s m s'
       → Ran (backwards (map call_of (drop k xs))) t m' t' → Division (map call_of xs) place s t
   divided s t s' t' m m' f b = record {
-    answers-s = f.answers;
-    answers-t = b.answers;
-    end-s = s';
-    end-t = t';
+    answers_s = f.answers;
+    answers_t = b.answers;
+    end_s = s';
+    end_t = t';
     forward = subst (λ cs. Run cs s f.answers s') (ap (map call_of) same-front ∙ sym (take-map call_of place xs)) f.run;
     backward = subst (λ cs. Run (backwards cs) t b.answers t') (ap (map call_of) same_rest ∙ sym (drop-map call_of place xs)) b.run;
   }
@@ -119,10 +119,10 @@ step-qubits (gate kind j l) s a s' h = go a h.granted h.refused
     applied (Some g) h = h.qubits
     applied None h = absurd h
 
-    go : (a : ℕ) → (a ≡ 0 → AppliedBy (gateOf kind) j l s s') → (0 < a → s' ≡ s) → s'.qubits ≡ s.qubits
-    go zero g r = applied (gateOf kind) (g refl)
+    go : (a : ℕ) → (a ≡ 0 → AppliedBy (gate_numbered kind) j l s s') → (0 < a → s' ≡ s) → s'.qubits ≡ s.qubits
+    go zero g r = applied (gate_numbered kind) (g refl)
     go (suc a) g r = ap (λ x. x.qubits) (r (omega arith))
-step-qubits (project text) s a s' h = go (textNumber s.qubits text) (pauliOf text) h
+step-qubits (project text) s a s' h = go (text_number s.qubits text) (pauli_of text) h
   where
     projected : (P : Pauli) (a : ℕ) (s' : StabilizerState) → Projected P s a s' → s'.qubits ≡ s.qubits
     projected P a s' (impossible v) = refl

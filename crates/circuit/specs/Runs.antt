@@ -6,11 +6,11 @@ use Rattle.stabilizer.specs.Overlaps.{IsOverlap}
 use Rattle.stabilizer.specs.declared.state.StabilizerState.{StabilizerState}
 
 -- S, of number 3, and S†, of number 4, exchanged, and every other call as it is
-abbrev pub inverseKind : ℕ → ℕ
-inverseKind kind = cond (kind == 3) 4 (cond (kind == 4) 3 kind)
+abbrev pub kind_inverse : ℕ → ℕ
+kind_inverse kind = cond (kind == 3) 4 (cond (kind == 4) 3 kind)
 
 abbrev pub inverse : Call → Call
-inverse (gate kind j l) = gate (inverseKind kind) j l
+inverse (gate kind j l) = gate (kind_inverse kind) j l
 inverse (project text) = project text
 
 -- the calls from the last to the first, each inverted
@@ -35,20 +35,20 @@ Worth false t s value = IsOverlap t s value
 
 -- The calls divided at a place: s gets those before it, and t the others, from the last to the first and inverted.
 pub record Division (calls : List Call) (place : ℕ) (s t : StabilizerState) : Type 0 where
-  pub answers-s : List ℕ
-  pub answers-t : List ℕ
-  pub end-s : StabilizerState
-  pub end-t : StabilizerState
-  pub forward : Run (take place calls) s answers-s end-s
-  pub backward : Run (backwards (drop place calls)) t answers-t end-t
+  pub answers_s : List ℕ
+  pub answers_t : List ℕ
+  pub end_s : StabilizerState
+  pub end_t : StabilizerState
+  pub forward : Run (take place calls) s answers_s end_s
+  pub backward : Run (backwards (drop place calls)) t answers_t end_t
 
 abbrev pub answers : {calls : List Call} {place : ℕ} {s t : StabilizerState} → Division calls place s t → List ℕ
-answers d = d.answers-s ++ d.answers-t
+answers d = d.answers_s ++ d.answers_t
 
 -- no projection found the weight exhausted, and this is the value
 pub record Valued {calls : List Call} {place : ℕ} {s t : StabilizerState} (d : Division calls place s t) (value : Triple) : Type 0 where
   pub counts : among 22 (answers d) ≡ false
-  pub worth : Worth (among 21 (answers d)) d.end-t d.end-s value
+  pub worth : Worth (among 21 (answers d)) d.end_t d.end_s value
 
 -- every division of the list that counts, whatever its place, has this value
 abbrev pub EveryDivision : List Call → StabilizerState → StabilizerState → Triple → Type 0

@@ -2,7 +2,7 @@ ghost use Rattle.std.specs.Prelude.{◌≡◌};
 ghost use Rattle.cyclotomic.specs.Refusals.{answer_of};
 ghost use Rattle.stabilizer.specs.Calls.{Step};
 ghost use Rattle.circuit.specs.Made.{call_of};
-ghost use Rattle.circuit.specs.Runs.{inverse as inverseOf, inverseKind};
+ghost use Rattle.circuit.specs.Runs.{inverse as inverse_of, kind_inverse};
 
 use cyclotomic::refusal::Refusal;
 use stabilizer::state::StabilizerState;
@@ -31,7 +31,7 @@ impl Call {
 
     // Makes the inverse of the call, with S and its inverse exchanged.
     pub fn make_inverse(&self, state: &mut StabilizerState) -> Result<(), Refusal>
-        ensures { Step (inverseOf (call_of self.now)) state.old (answer_of result) state.new }
+        ensures { Step (inverse_of (call_of self.now)) state.old (answer_of result) state.new }
     {
         match self {
             Call::Gate {
@@ -46,7 +46,7 @@ impl Call {
 
 // The number of the inverse of a gate: that of S for its inverse, and the other way round.
 fn inverse_kind(kind: u64) -> u64
-    ensures { result ≡ inverseKind kind }
+    ensures { result ≡ kind_inverse kind }
 {
     match kind {
         3 => 4,

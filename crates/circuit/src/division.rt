@@ -1,6 +1,6 @@
 ghost use Rattle.std.specs.Prelude.{◌≡◌, ◌<◌, ◌≤◌, Bool, ◌||◌, map, ◌==◌};
 ghost use Rattle.cyclotomic.specs.Refusals.{answer_of};
-ghost use Rattle.stabilizer.specs.Overlaps.{sizesNumber};
+ghost use Rattle.stabilizer.specs.Overlaps.{sizes_number};
 ghost use Rattle.circuit.specs.Made.{call_of};
 ghost use Rattle.circuit.specs.Runs.{backwards};
 ghost use Rattle.circuit.specs.Splits.{Ran, Divided};
@@ -66,7 +66,7 @@ pub fn split(
     calls: &[Call],
     place: u64,
 ) -> Result<SplitValue, Refusal>
-    ensures number { answer_of result ≡ sizesNumber t.now s.now }
+    ensures number { answer_of result ≡ sizes_number t.now s.now }
     ensures value { Divided result (map call_of calls.now) place s.now t.now }
 {
     if t.qubits() != s.qubits() {

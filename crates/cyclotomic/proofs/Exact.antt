@@ -53,22 +53,22 @@ scaled-unit n k p m e = scaled-one n k (unit p m) refl e ∙ exact-mod k (m % 8)
 powered-turn : (p : ℤ) (m k j : ℕ) → j % 8 ≡ (m + k) % 8 → powered omegas p j ≡ wpow omegas k ⊗ powered omegas p m
 powered-turn (pos q) m k j e =
     ap (◌⊗◌ (rpow omegas q)) (RingFacts.wpow-mod omega-laws j (k + m) (omega arith) ∙ RingFacts.wpow-add omega-laws k m)
-    ∙ CommFacts.times-left-comm omega-laws.comm (rpow omegas q) (wpow omegas k) (wpow omegas m)
-powered-turn (negsuc q) m k j e = sym (CommFacts.times-nil omega-laws.comm (wpow omegas k))
+    ∙ CommFacts.times_left_comm omega-laws.comm (rpow omegas q) (wpow omegas k) (wpow omegas m)
+powered-turn (negsuc q) m k j e = sym (CommFacts.times_nil omega-laws.comm (wpow omegas k))
 
 -- a turn of k eighths is a product with ω^k
 pub scaled-turn : (n d : ℕ) (p : ℤ) (m k j : ℕ) → j % 8 ≡ (m + k) % 8 → scaled n (d, p, j) ≡ wpow omegas k ⊗ scaled n (d, p, m)
 unfolding scaled
-scaled-turn n zero p m k j e = sym (CommFacts.times-nil omega-laws.comm (wpow omegas k))
+scaled-turn n zero p m k j e = sym (CommFacts.times_nil omega-laws.comm (wpow omegas k))
 scaled-turn n (suc d) p m k j e = powered-turn (pos n +ℤ p) m k j e
 
 pub bar-wpow : (m j : ℕ) → (m + j) % 8 ≡ 0 → bar (wpow omegas m) ≡ wpow omegas j
 unfolding omegas
 bar-wpow m j e =
-    sym (omega-laws.comm.times-one (bar (wpow omegas m)))
+    sym (omega-laws.comm.times_one (bar (wpow omegas m)))
     ∙ ap (◌⊗◌ (bar (wpow omegas m))) (RingFacts.wpow-mod omega-laws 0 (m + j) (sym e) ∙ RingFacts.wpow-add omega-laws m j)
-    ∙ sym (omega-laws.comm.times-assoc (bar (wpow omegas m)) (wpow omegas m) (wpow omegas j))
-    ∙ ap (λ x. x ⊗ wpow omegas j) (conj-wpow int_laws m) ∙ CommFacts.one-times omega-laws.comm (wpow omegas j)
+    ∙ sym (omega-laws.comm.times_assoc (bar (wpow omegas m)) (wpow omegas m) (wpow omegas j))
+    ∙ ap (λ x. x ⊗ wpow omegas j) (conj-wpow int_laws m) ∙ CommFacts.one_times omega-laws.comm (wpow omegas j)
 
 pub bar-nil : bar nil ≡ nil
 unfolding omegas
@@ -76,7 +76,7 @@ bar-nil = refl
 
 powered-bar : (p : ℤ) (m j : ℕ) → (m + j) % 8 ≡ 0 → bar (powered omegas p m) ≡ powered omegas p j
 unfolding omegas
-powered-bar (pos q) m j e = (conj-hom int_laws).times-to (rpow omegas q) (wpow omegas m) ∙ ap₂ ◌⊗◌ (conj-rpow q) (bar-wpow m j e)
+powered-bar (pos q) m j e = (conj-hom int_laws).times_to (rpow omegas q) (wpow omegas m) ∙ ap₂ ◌⊗◌ (conj-rpow q) (bar-wpow m j e)
 powered-bar (negsuc q) m j e = bar-nil
 
 -- the conjugate turns the other way

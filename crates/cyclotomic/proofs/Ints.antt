@@ -38,13 +38,13 @@ int_laws = record {
   plus_comm = +ℤ_comm;
   plus_assoc = +ℤ_assoc;
   plus_nil = +ℤ_idr;
-  plus-neg = +ℤ_invr;
-  times-comm = *ℤ_comm;
-  times-assoc = *ℤ-assoc;
-  times-one = *ℤ-unit;
-  times-plus = *ℤ-plus;
+  plus_neg = +ℤ_invr;
+  times_comm = *ℤ_comm;
+  times_assoc = *ℤ-assoc;
+  times_one = *ℤ-unit;
+  times_plus = *ℤ-plus;
 }
 
 pub omega-laws : RingLaws omegas
 unfolding omegas
-omega-laws = AdjoinLaws.tower-laws int_laws
+omega-laws = AdjoinLaws.tower_laws int_laws

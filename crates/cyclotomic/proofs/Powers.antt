@@ -5,11 +5,11 @@ use Rattle.cyclotomic.specs.Ring.{Ops, CommLaws, power}
 module _ {R : Type 0} {o : Ops R} (laws : CommLaws o) where
   infixl 70 ◌⊗◌
   open o use {one, times as ◌⊗◌}
-  open laws use {times-assoc, times-one}
+  open laws use {times_assoc, times_one}
 
   square-power : (x : R) (n : ℕ) → power o (x ⊗ x) n ≡ power o x (n + n)
   square-power x zero = refl
-  square-power x (suc n) = rw (suc-add, add-suc) (ap (◌⊗◌ (x ⊗ x)) (square-power x n) ∙ times-assoc x x _)
+  square-power x (suc n) = rw (suc-add, add-suc) (ap (◌⊗◌ (x ⊗ x)) (square-power x n) ∙ times_assoc x x _)
 
   -- an even exponent
   pub even_step : (r x : R) (n : ℕ) → (n % 2 ≡ 1 → ⊥) → r ⊗ power o (x ⊗ x) (n / 2) ≡ r ⊗ power o x n
@@ -21,4 +21,4 @@ module _ {R : Type 0} {o : Ops R} (laws : CommLaws o) where
   pub odd_step : (r x : R) (n : ℕ) → n % 2 ≡ 1 → (r ⊗ x) ⊗ power o (x ⊗ x) (n / 2) ≡ r ⊗ power o x n
   odd_step r x n h =
       let e : suc (n / 2 + n / 2) ≡ n = omega arith in
-      times-assoc r x _ ∙ ap (◌⊗◌ r) (ap (◌⊗◌ x) (square-power x (n / 2)) ∙ ap (power o x) e)
+      times_assoc r x _ ∙ ap (◌⊗◌ r) (ap (◌⊗◌ x) (square-power x (n / 2)) ∙ ap (power o x) e)

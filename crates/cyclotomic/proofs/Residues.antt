@@ -3,7 +3,7 @@ use Rattle.std.proofs.Common.{◌≡◌, ℕ, ◌+◌, ◌-◌, ◌%◌, ◌<◌
 use native.Mathlib.Nat.{mod-mod, zero-mod}
 use lib.Dec.{eqb_refl}
 use Rattle.cyclotomic.specs.Modular.{low, residues}
-use Rattle.cyclotomic.specs.ModularLaws.{same, residue-laws, low-plus}
+use Rattle.cyclotomic.specs.ModularLaws.{same, residue_laws, low_plus}
 use Rattle.cyclotomic.specs.CommFacts.{cancel}
 
 -- equal numbers pass the test of equality
@@ -21,7 +21,7 @@ module _ {n : ℕ} (h : 0 < n) where
   -- what gives 0 when it is added is the negative
   pub low-wrapped : (w a b : ℕ) → (b + a) % n ≡ 0 → low h b ≡ (residues h w).neg (low h a)
   low-wrapped w a b e =
-      let laws = residue-laws n h w in
+      let laws = residue_laws n h w in
       cancel laws (low h b) ((residues h w).neg (low h a)) (low h a)
-      (sym (low-plus n h w b a) ∙ same (e ∙ sym (zero-mod n))
-      ∙ sym (laws.plus_comm ((residues h w).neg (low h a)) (low h a) ∙ laws.plus-neg (low h a)))
+      (sym (low_plus n h w b a) ∙ same (e ∙ sym (zero-mod n))
+      ∙ sym (laws.plus_comm ((residues h w).neg (low h a)) (low h a) ∙ laws.plus_neg (low h a)))

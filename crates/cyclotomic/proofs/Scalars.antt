@@ -3,7 +3,7 @@ use Rattle.std.proofs.Common.{◌≡◌, ℕ, zero, suc, ◌+◌, ◌*◌, ◌%�
 use native.Mathlib.Nat.{pow-le-pow_right}
 use borrow.Author.Differences.{up, down, ints}
 use lib.IntN.{ℤ_discrete}
-use Rattle.cyclotomic.specs.AdjoinLaws.{pair-discrete}
+use Rattle.cyclotomic.specs.AdjoinLaws.{pair_discrete}
 use Rattle.cyclotomic.specs.Ring.{wpow, root, rpow, exact, num}
 use Rattle.cyclotomic.specs.Adjoin.{Pair, Omega, omegas, conj}
 use Rattle.cyclotomic.specs.Adjoin
@@ -60,16 +60,16 @@ wpow-same m n h = sym (turns-wpow (m % 8) (omega arith))
 -- a scalar times its conjugate is 2^p
 pub conj-rpow : (p : ℕ) → bar (rpow omegas p) ≡ rpow omegas p
 unfolding omegas
-conj-rpow zero = (conj-hom int_laws).one-to
-conj-rpow (suc p) = (conj-hom int_laws).times-to (root omegas) (rpow omegas p) ∙ ap₂ ◌⊗◌ (conj-root int_laws) (conj-rpow p)
+conj-rpow zero = (conj-hom int_laws).one_to
+conj-rpow (suc p) = (conj-hom int_laws).times_to (root omegas) (rpow omegas p) ∙ ap₂ ◌⊗◌ (conj-root int_laws) (conj-rpow p)
 
 exact-norm : (p m : ℕ) → bar (exact omegas p m) ⊗ exact omegas p m ≡ num omegas (2 ^ p)
 unfolding omegas
 exact-norm p m =
-    ap (λ s. s ⊗ exact omegas p m) ((conj-hom int_laws).times-to (rpow omegas p) (wpow omegas m))
-    ∙ CommFacts.times-middle omega-laws.comm (bar (rpow omegas p)) (bar (wpow omegas m)) (rpow omegas p) (wpow omegas m)
+    ap (λ s. s ⊗ exact omegas p m) ((conj-hom int_laws).times_to (rpow omegas p) (wpow omegas m))
+    ∙ CommFacts.times_middle omega-laws.comm (bar (rpow omegas p)) (bar (wpow omegas m)) (rpow omegas p) (wpow omegas m)
     ∙ ap₂ ◌⊗◌ (ap (λ s. s ⊗ rpow omegas p) (conj-rpow p) ∙ RingFacts.rpow-square omega-laws p) (conj-wpow int_laws m)
-    ∙ omega-laws.comm.times-one (num omegas (2 ^ p))
+    ∙ omega-laws.comm.times_one (num omegas (2 ^ p))
 
 power-same : (p q : ℕ) → 2 ^ p ≡ 2 ^ q → p ≡ q
 power-same zero zero h = refl
@@ -92,4 +92,4 @@ exact_same p m q n h =
     )
 
 pub omega-discrete : Discrete Omega
-omega-discrete = pair-discrete (pair-discrete ℤ_discrete)
+omega-discrete = pair_discrete (pair_discrete ℤ_discrete)

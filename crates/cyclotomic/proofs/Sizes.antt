@@ -3,7 +3,7 @@ use Rattle.std.proofs.Common.{◌≡◌, ℕ, zero, suc, ◌+◌, ◌-◌, ◌%�
 use borrow.Author.Differences.{up, down, sum_is_lem}
 use mir.Facts.{to_z_pos}
 use Rattle.std.proofs.lemmas.Bool.{and_parts, leb-true}
-use Rattle.cyclotomic.specs.Adjoin.{Omega, omegas, int-to}
+use Rattle.cyclotomic.specs.Adjoin.{Omega, omegas, int_to}
 use Rattle.cyclotomic.specs.Ring.{wpow, num}
 use Rattle.cyclotomic.specs.Signed.{signed, Sized}
 use Rattle.cyclotomic.specs.Sum.{sum_to}
@@ -82,17 +82,17 @@ num-word : (n : ℕ) → (num words n).0 ≡ n % 2 ^ 64
 num-word zero = refl
 num-word (suc n) = ap (λ k. (1 + k) % 2 ^ 64) (num-word n) ∙ omega arith
 
-word_back : (z : ℤ) → nat_abs z ≤ 2 ^ 48 → to_z w64 (int-to words z).0 ≡ z
+word_back : (z : ℤ) → nat_abs z ≤ 2 ^ 48 → to_z w64 (int_to words z).0 ≡ z
 word_back (pos n) h =
     let e = num-word n in
     let m : n % 2 ^ 64 ≡ n = mod-eq_of_lt (omega arith) in
-    let r : (int-to words (pos n)).0 ≡ n = ap (λ k. (k + 0) % 2 ^ 64) (e ∙ m) ∙ ap (λ k. k % 2 ^ 64) (add-zero n) ∙ m in
+    let r : (int_to words (pos n)).0 ≡ n = ap (λ k. (k + 0) % 2 ^ 64) (e ∙ m) ∙ ap (λ k. k % 2 ^ 64) (add-zero n) ∙ m in
     ap (to_z w64) r ∙ to_z_pos w64 {n = n} (omega arith)
 word_back (negsuc n) h =
     let e = num-word (suc n) in
     let m : suc n % 2 ^ 64 ≡ suc n = mod-eq_of_lt (omega arith) in
     let k : (2 ^ 64 - suc n) % 2 ^ 64 ≡ 2 ^ 64 - suc n = mod-eq_of_lt (omega arith) in
-    let r : (int-to words (negsuc n)).0 ≡ 2 ^ 64 - suc n = ap (λ x. (0 + (2 ^ 64 - x) % 2 ^ 64) % 2 ^ 64) (e ∙ m)
+    let r : (int_to words (negsuc n)).0 ≡ 2 ^ 64 - suc n = ap (λ x. (0 + (2 ^ 64 - x) % 2 ^ 64) % 2 ^ 64) (e ∙ m)
     ∙ ap (λ x. (0 + x) % 2 ^ 64) k ∙ ap (λ x. x % 2 ^ 64) (zero-add (2 ^ 64 - suc n)) ∙ k in
     ap (to_z w64) r ∙ to_z-of_z {w = w64} {z = negsuc n} (record { sfits = omega arith })
 

@@ -9,7 +9,7 @@ module _ {R : Type 0} {o : Ops R} (laws : CommLaws o) where
   infixl 65 ◌⊕◌
   infixl 70 ◌⊗◌
   open o use {nil, one, plus as ◌⊕◌, times as ◌⊗◌}
-  open laws use {plus_assoc, plus_nil, times-plus, times-comm}
+  open laws use {plus_assoc, plus_nil, times_plus, times_comm}
 
   pub sum_same : (f g : ℕ → R) (n : ℕ) → ((c : ℕ) → c < n → f c ≡ g c) → sum_to o f n ≡ sum_to o g n
   sum_same f g zero h = refl
@@ -25,18 +25,18 @@ module _ {R : Type 0} {o : Ops R} (laws : CommLaws o) where
   sum-plus f g (suc n) = ap (λ s. s ⊕ (f n ⊕ g n)) (sum-plus f g n) ∙ CommFacts.middle laws _ _ _ _
 
   pub sum-times : (x : R) (f : ℕ → R) (n : ℕ) → sum_to o (λ c. x ⊗ f c) n ≡ x ⊗ sum_to o f n
-  sum-times x f zero = sym (CommFacts.times-nil laws x)
-  sum-times x f (suc n) = ap (λ s. s ⊕ x ⊗ f n) (sum-times x f n) ∙ sym (times-plus x _ _)
+  sum-times x f zero = sym (CommFacts.times_nil laws x)
+  sum-times x f (suc n) = ap (λ s. s ⊕ x ⊗ f n) (sum-times x f n) ∙ sym (times_plus x _ _)
 
   -- the product of two sums
   pub sum-sum : (f g : ℕ → R) (n m : ℕ) → sum_to o f n ⊗ sum_to o g m ≡ sum_to o (λ a. sum_to o (λ b. f a ⊗ g b) m) n
-  sum-sum f g zero m = CommFacts.nil-times laws _
+  sum-sum f g zero m = CommFacts.nil_times laws _
   sum-sum f g (suc n) m = CommFacts.plus_times laws _ _ _ ∙ ap₂ ◌⊕◌ (sum-sum f g n m) (sym (sum-times (f n) g m))
 
   pub sum-const : (x : R) (n : ℕ) → sum_to o (λ c. x) n ≡ num o n ⊗ x
-  sum-const x zero = sym (CommFacts.nil-times laws x)
+  sum-const x zero = sym (CommFacts.nil_times laws x)
   sum-const x (suc n) = ap (λ s. s ⊕ x) (sum-const x n) ∙ CommFacts.plus_comm laws _ _
-      ∙ ap (λ s. s ⊕ num o n ⊗ x) (sym (CommFacts.one-times laws x)) ∙ sym (CommFacts.plus_times laws one (num o n) x)
+      ∙ ap (λ s. s ⊕ num o n ⊗ x) (sym (CommFacts.one_times laws x)) ∙ sym (CommFacts.plus_times laws one (num o n) x)
 
   pub sum-split : (f : ℕ → R) (n m : ℕ) → sum_to o f (n + m) ≡ sum_to o f n ⊕ sum_to o (λ k. f (n + k)) m
   sum-split f n zero = rw add-zero (sym (plus_nil _))
@@ -52,7 +52,7 @@ module _ {R : Type 0} {o : Ops R} (laws : CommLaws o) where
   sum_one f (suc n) z l h = at (ℕ_discrete z n) (sum_one f n z)
     where
       at : Dec (z ≡ n) → (z < n → ((c : ℕ) → c < n → ¬ (c ≡ z) → f c ≡ nil) → sum_to o f n ≡ f z) → sum_to o f (suc n) ≡ f z
-      at (yes e) back = ap₂ ◌⊕◌ (sum-nil f n (λ c k. h c (omega arith) (omega arith))) (ap f (sym e)) ∙ CommFacts.nil-plus laws (f z)
+      at (yes e) back = ap₂ ◌⊕◌ (sum-nil f n (λ c k. h c (omega arith) (omega arith))) (ap f (sym e)) ∙ CommFacts.nil_plus laws (f z)
       at (no d) back = ap₂ ◌⊕◌ (back (omega arith) (λ c k. h c (omega arith))) (h n (omega arith) (omega arith)) ∙ plus_nil (f z)
 
   -- blocks of m terms
@@ -61,8 +61,8 @@ module _ {R : Type 0} {o : Ops R} (laws : CommLaws o) where
   sum-blocks f (suc n) m = rw suc-mul (sum-split f (n * m) m ∙ ap (λ s. s ⊕ sum_to o (λ b. f (n * m + b)) m) (sum-blocks f n m))
 
   pub only-times : (b : Bool) (x : R) → only o b x ≡ only o b one ⊗ x
-  only-times true x = sym (CommFacts.one-times laws x)
-  only-times false x = sym (CommFacts.nil-times laws x)
+  only-times true x = sym (CommFacts.one_times laws x)
+  only-times false x = sym (CommFacts.nil_times laws x)
 
   pub delta : (f : ℕ → R) (n z : ℕ) → z < n → sum_to o (λ y. only o (eqb y z) (f y)) n ≡ f z
   delta f n z l = sum_one _ n z l (λ c k d. ap (λ b. only o b (f c)) (ne_eqb c z d)) ∙ ap (λ b. only o b (f z)) (eq-eqb z z refl)

@@ -3,7 +3,7 @@ use Rattle.std.proofs.Common.{◌≡◌, ℕ, ◌+◌, ◌-◌, ◌*◌, ◌%◌
 use native.Mathlib.Nat.{mod-mod, mod-add-mod, add-mod-mod}
 use Rattle.cyclotomic.specs.Adjoin.{quad, tower}
 use Rattle.cyclotomic.specs.Modular.{low, residues}
-use Rattle.cyclotomic.specs.ModularLaws.{same, residue-laws, mod-mul-mod, mul-mod-mod}
+use Rattle.cyclotomic.specs.ModularLaws.{same, residue_laws, mod_mul_mod, mul_mod_mod}
 use Rattle.cyclotomic.proofs.Conj.{four, tower-times}
 
 -- a term of a sum may be reduced before the sum is
@@ -19,7 +19,7 @@ second-of n a b c = sym (add-mod-mod a (b % n + c) n) ∙ ap (λ k. (a + k) % n)
 pub third_of : (n a b c d : ℕ) → (a + (b + (c % n + d))) % n ≡ (a + (b + (c + d))) % n
 third_of n a b c d = ap (λ k. k % n) (sym (add_assoc a b (c % n + d))) ∙ second-of n (a + b) c d ∙ ap (λ k. k % n) (add_assoc a b (c + d))
 
-pub ruleset mods = (mod-mod, mod-add-mod, add-mod-mod, second-of, third, third_of, fourth, mod-mul-mod, mul-mod-mod, add_assoc)
+pub ruleset mods = (mod-mod, mod-add-mod, add-mod-mod, second-of, third, third_of, fourth, mod_mul_mod, mul_mod_mod, add_assoc)
 
 module _ (n : ℕ) (h : 0 < n) (w : ℕ) where
   infixl 65 ◌⊞◌ ◌⊟◌
@@ -38,4 +38,4 @@ module _ (n : ℕ) (h : 0 < n) (w : ℕ) where
       ≡ (tower (residues h w)).times (quad (low h a) (low h b) (low h c) (low h d)) (quad (low h e) (low h f) (low h g) (low h k))
   four-times a b c d e f g k =
       four (same (simp mods)) (same (simp mods)) (same (simp mods)) (same (simp mods))
-      ∙ sym (tower-times (residue-laws n h w) (low h a) (low h b) (low h c) (low h d) (low h e) (low h f) (low h g) (low h k))
+      ∙ sym (tower-times (residue_laws n h w) (low h a) (low h b) (low h c) (low h d) (low h e) (low h f) (low h g) (low h k))

@@ -49,12 +49,12 @@ omegas = tower ints
 abbrev pub extend : {A B : Type 0} → Ops B → (A → B) → B → Pair A → B
 extend p h t x = p.plus (h x.re) (p.times (h x.im) t)
 
-abbrev pub int-to : {R : Type 0} → Ops R → ℤ → R
-int-to o z = o.plus (num o (up z)) (o.neg (num o (down z)))
+abbrev pub int_to : {R : Type 0} → Ops R → ℤ → R
+int_to o z = o.plus (num o (up z)) (o.neg (num o (down z)))
 
-abbrev pub gauss-to : {R : Type 0} → Ops R → Pair ℤ → R
-gauss-to o = extend o (int-to o) (o.times o.w o.w)
+abbrev pub gauss_to : {R : Type 0} → Ops R → Pair ℤ → R
+gauss_to o = extend o (int_to o) (o.times o.w o.w)
 
 -- a0 + a1 w + a2 w^2 + a3 w^3, in any ring with w
-abbrev pub omega-to : {R : Type 0} → Ops R → Omega → R
-omega-to o = extend o (gauss-to o) o.w
+abbrev pub omega_to : {R : Type 0} → Ops R → Omega → R
+omega_to o = extend o (gauss_to o) o.w

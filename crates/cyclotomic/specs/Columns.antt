@@ -2,8 +2,8 @@
 use Rattle.std.specs.Prelude.{ℕ, zero, suc, ◌-◌, ◌*◌, ◌/◌, ◌%◌, ◌^◌, cond, nat_lt}
 
 -- digit i, from the left, of the lowest n hexadecimal digits of x; 0 past the end
-abbrev pub hexAt : ℕ → ℕ → ℕ → ℕ
-hexAt n x i = cond (nat_lt i n) (x / 2 ^ (4 * (n - 1 - i)) % 16) 0
+abbrev pub hex_at : ℕ → ℕ → ℕ → ℕ
+hex_at n x i = cond (nat_lt i n) (x / 2 ^ (4 * (n - 1 - i)) % 16) 0
 
 -- the word at a place of four; 0 past the end
 abbrev pub word_at : ℕ → ℕ → ℕ → ℕ → ℕ → ℕ

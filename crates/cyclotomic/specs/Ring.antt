@@ -14,15 +14,15 @@ pub record CommLaws {R : Type 0} (o : Ops R) : Type 0 where
   pub plus_comm : (x y : R) → o.plus x y ≡ o.plus y x
   pub plus_assoc : (x y z : R) → o.plus (o.plus x y) z ≡ o.plus x (o.plus y z)
   pub plus_nil : (x : R) → o.plus x o.nil ≡ x
-  pub plus-neg : (x : R) → o.plus x (o.neg x) ≡ o.nil
-  pub times-comm : (x y : R) → o.times x y ≡ o.times y x
-  pub times-assoc : (x y z : R) → o.times (o.times x y) z ≡ o.times x (o.times y z)
-  pub times-one : (x : R) → o.times x o.one ≡ x
-  pub times-plus : (x y z : R) → o.times x (o.plus y z) ≡ o.plus (o.times x y) (o.times x z)
+  pub plus_neg : (x : R) → o.plus x (o.neg x) ≡ o.nil
+  pub times_comm : (x y : R) → o.times x y ≡ o.times y x
+  pub times_assoc : (x y z : R) → o.times (o.times x y) z ≡ o.times x (o.times y z)
+  pub times_one : (x : R) → o.times x o.one ≡ x
+  pub times_plus : (x y z : R) → o.times x (o.plus y z) ≡ o.plus (o.times x y) (o.times x z)
 
 pub record RingLaws {R : Type 0} (o : Ops R) : Type 0 where
   pub comm : CommLaws o
-  pub w-fourth : o.plus (o.times (o.times (o.times o.w o.w) o.w) o.w) o.one ≡ o.nil
+  pub w_fourth : o.plus (o.times (o.times (o.times o.w o.w) o.w) o.w) o.one ≡ o.nil
 
 -- x to the power m
 abbrev pub power : {R : Type 0} → Ops R → R → ℕ → R
@@ -54,6 +54,6 @@ num o (suc n) = o.plus o.one (num o n)
 
 -- h respects the operations
 pub record Hom {A B : Type 0} (o : Ops A) (p : Ops B) (h : A → B) : Type 0 where
-  pub one-to : h o.one ≡ p.one
-  pub plus-to : (x y : A) → h (o.plus x y) ≡ p.plus (h x) (h y)
-  pub times-to : (x y : A) → h (o.times x y) ≡ p.times (h x) (h y)
+  pub one_to : h o.one ≡ p.one
+  pub plus_to : (x y : A) → h (o.plus x y) ≡ p.plus (h x) (h y)
+  pub times_to : (x y : A) → h (o.times x y) ≡ p.times (h x) (h y)

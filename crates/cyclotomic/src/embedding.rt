@@ -1,6 +1,6 @@
 ghost use Rattle.std.specs.Prelude.{◌≡◌, ℕ, ◌<◌, MatchResult};
 ghost use Rattle.cyclotomic.specs.Refusals.{number_of};
-ghost use Rattle.cyclotomic.specs.Ring.{power as powerOf, root as rootOf};
+ghost use Rattle.cyclotomic.specs.Ring.{power as power_of, root as root_of};
 ghost use Rattle.cyclotomic.specs.Scalars.{triple_of, Negative, embedded};
 
 use crate::refusal::Refusal;
@@ -9,7 +9,7 @@ use crate::scalar::Scalar;
 
 // base^exponent, by squaring.
 pub fn power<R: Ring>(base: R, exponent: u64) -> R
-    ensures { R.value result ≡ powerOf R.ops (R.value base) exponent }
+    ensures { R.value result ≡ power_of R.ops (R.value base) exponent }
 {
     let mut result = R::one();
     let mut square = base;
@@ -26,7 +26,7 @@ pub fn power<R: Ring>(base: R, exponent: u64) -> R
 
 // omega + omega^7, a square root of 2.
 pub fn root<R: Ring>() -> R
-    ensures { R.value result ≡ rootOf R.ops }
+    ensures { R.value result ≡ root_of R.ops }
 {
     power(R::omega(), 1).plus(power(R::omega(), 7))
 }

@@ -1,8 +1,8 @@
 ghost use Rattle.std.specs.Prelude.{◌≡◌, ℕ, ◌<◌};
 ghost use Rattle.std.proofs.Common.{lit<};
-ghost use Rattle.cyclotomic.specs.Columns.{hexAt};
+ghost use Rattle.cyclotomic.specs.Columns.{hex_at};
 ghost use Rattle.cyclotomic.specs.Modular.{Below as Residue, seventeen, low};
-ghost use Rattle.cyclotomic.specs.ModularLaws.{seventeen-laws};
+ghost use Rattle.cyclotomic.specs.ModularLaws.{seventeen_laws};
 
 use crate::ring::{Column, Ring};
 
@@ -18,7 +18,7 @@ impl Ring for Mod17 {
 
     ghost ops = { seventeen };
 
-    ghost laws = { seventeen-laws };
+    ghost laws = { seventeen_laws };
 
     ghost value = { λ x. low (lit< tt) x.residue };
 
@@ -61,7 +61,7 @@ impl Ring for Mod17 {
 impl Column for Mod17 {
     ghost digits = { 2 };
 
-    ghost digit_of = { λ x i. hexAt 2 x.residue i };
+    ghost digit_of = { λ x i. hex_at 2 x.residue i };
 
     const DIGITS: usize = 2;
 

@@ -1,9 +1,9 @@
 ghost use Rattle.std.specs.Prelude.{◌≡◌, ℕ, ◌/◌, ◌%◌, ◌^◌, ◌<◌};
 ghost use Rattle.std.proofs.Common.{lit<};
 ghost use Rattle.cyclotomic.specs.Adjoin.{quad};
-ghost use Rattle.cyclotomic.specs.Columns.{hexAt, word_at};
+ghost use Rattle.cyclotomic.specs.Columns.{hex_at, word_at};
 ghost use Rattle.cyclotomic.specs.Modular.{Quad, quads as modular, low};
-ghost use Rattle.cyclotomic.specs.ModularLaws.{quad-laws};
+ghost use Rattle.cyclotomic.specs.ModularLaws.{quad_laws};
 
 use crate::ring::{Column, Ring};
 
@@ -21,7 +21,7 @@ impl Ring for Cyclotomic64 {
 
     ghost ops = { modular };
 
-    ghost laws = { quad-laws };
+    ghost laws = { quad_laws };
 
     ghost value = { λ x. quad (low {n = 2 ^ 64} (lit< tt) x.a0) (low (lit< tt) x.a1) (low (lit< tt) x.a2) (low (lit< tt) x.a3) };
 
@@ -129,7 +129,7 @@ impl Cyclotomic64 {
 impl Column for Cyclotomic64 {
     ghost digits = { 64 };
 
-    ghost digit_of = { λ x i. hexAt 16 (word_at x.a0 x.a1 x.a2 x.a3 (i / 16)) (i % 16) };
+    ghost digit_of = { λ x i. hex_at 16 (word_at x.a0 x.a1 x.a2 x.a3 (i / 16)) (i % 16) };
 
     const DIGITS: usize = 64;
 

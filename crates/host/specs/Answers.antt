@@ -5,29 +5,29 @@ use Rattle.cyclotomic.specs.Scalars.{Triple, triple_of}
 use Rattle.cyclotomic.specs.declared.scalar.Scalar.{Scalar}
 use Rattle.stabilizer.specs.Overlaps.{Overlaps}
 use Rattle.stabilizer.specs.declared.state.StabilizerState.{StabilizerState}
-use Rattle.archive.specs.Faults.{stateReport}
+use Rattle.archive.specs.Faults.{state_report}
 use Rattle.archive.specs.Held.{Holds}
-use Rattle.archive.specs.Layout.{size_at, aloneFault}
+use Rattle.archive.specs.Layout.{size_at, alone_fault}
 use Rattle.archive.specs.declared.fault.StateFault.{StateFault}
 use Rattle.host.specs.declared.Denial.{Denial}
 use Rattle.host.specs.declared.Denial.TheVariants.{Fault, Refused}
 
-abbrev pub denialNumber : Denial → ℕ
-denialNumber (Fault f) = (stateReport f).number
-denialNumber (Refused e) = number_of e
+abbrev pub denial_number : Denial → ℕ
+denial_number (Fault f) = (state_report f).number
+denial_number (Refused e) = number_of e
 
 -- the number of a fault, or else another
-abbrev pub faultOr : Option StateFault → ℕ → ℕ
-faultOr (Some f) n = (stateReport f).number
-faultOr None n = n
+abbrev pub fault_or : Option StateFault → ℕ → ℕ
+fault_or (Some f) n = (state_report f).number
+fault_or None n = n
 
 -- two runs of bytes: the first's fault, the second's, different numbers of qubits, or none of these
-abbrev pub pairNumber : List ℕ → List ℕ → ℕ
-pairNumber t s = faultOr (aloneFault t) (faultOr (aloneFault s) (cond (size_at t 0 == size_at s 0) 0 23))
+abbrev pub pair_number : List ℕ → List ℕ → ℕ
+pair_number t s = fault_or (alone_fault t) (fault_or (alone_fault s) (cond (size_at t 0 == size_at s 0) 0 23))
 
 -- before all, an answer that is too short
-abbrev pub entryNumber : List ℕ → List ℕ → ℕ → ℕ
-entryNumber t s room = cond (nat_lt room 4) 13 (pairNumber t s)
+abbrev pub entry_number : List ℕ → List ℕ → ℕ → ℕ
+entry_number t s room = cond (nat_lt room 4) 13 (pair_number t s)
 
 -- ε in 1 bit, the power's size in 14, the turn in 3, and 14 zeros
 abbrev pub word_of : Triple → ℕ
@@ -41,8 +41,8 @@ bytes_of w = w / 2 ^ 24 ∷ w / 2 ^ 16 % 256 ∷ w / 2 ^ 8 % 256 ∷ w % 256 ∷
 pub record Overlapped (t s : List ℕ) (x : Scalar) : Type 0 where
   pub first : StabilizerState
   pub second : StabilizerState
-  pub holds-first : Holds t 0 first
-  pub holds-second : Holds s 0 second
+  pub holds_first : Holds t 0 first
+  pub holds_second : Holds s 0 second
   pub value : Overlaps x first second
 
 -- the answer begins with the overlap's four bytes

@@ -4,7 +4,7 @@
 ghost use Rattle.std.specs.Prelude.{◌≡◌, ℕ, ◌<◌, ◌≤◌, length, IfOk, MatchResult, slice_index};
 ghost use Rattle.cyclotomic.specs.Scalars.{triple_of};
 ghost use Rattle.host.specs.declared.Denial.TheVariants.{Fault, Refused};
-ghost use Rattle.host.specs.Answers.{denialNumber, pairNumber, entryNumber, word_of, bytes_of, Overlapped, Answered};
+ghost use Rattle.host.specs.Answers.{denial_number, pair_number, entry_number, word_of, bytes_of, Overlapped, Answered};
 
 use archive::codec::read;
 use archive::fault::StateFault;
@@ -38,7 +38,7 @@ impl From<Refusal> for Denial {
 impl Denial {
     // The number that stands for it.
     pub fn number(self) -> u64
-        ensures { result ≡ denialNumber self }
+        ensures { result ≡ denial_number self }
     {
         match self {
             Denial::Fault(fault) => fault.number(),
@@ -49,7 +49,7 @@ impl Denial {
 
 // The overlap of the states that two runs of bytes hold.
 pub fn overlap_of(t: &[u8], s: &[u8]) -> Result<Scalar, Denial>
-    ensures number { MatchResult result (λ _. pairNumber t.now s.now ≡ 0) (λ d. denialNumber d ≡ pairNumber t.now s.now) }
+    ensures number { MatchResult result (λ _. pair_number t.now s.now ≡ 0) (λ d. denial_number d ≡ pair_number t.now s.now) }
     ensures value { IfOk result (Overlapped t.now s.now) }
 {
     let mut first = StabilizerState::new();
@@ -88,7 +88,7 @@ fn put(answer: &mut [u8], bytes: [u8; 4])
 // Writes the overlap of two states, given as bytes, into the first four bytes of the answer, and answers 0; or answers the number of
 // the refusal, and writes nothing.
 pub fn overlap(t: &[u8], s: &[u8], answer: &mut [u8]) -> u8
-    ensures number { result ≡ entryNumber t.now s.now (length answer.old) }
+    ensures number { result ≡ entry_number t.now s.now (length answer.old) }
     ensures granted { result ≡ 0 → Answered t.now s.now answer.new }
     ensures refused { 0 < result → answer.new ≡ answer.old }
     ensures rest { (k : ℕ) → 4 ≤ k → slice_index answer.new k ≡ slice_index answer.old k }

@@ -3,38 +3,38 @@ use Rattle.std.specs.Prelude.{◌≡◌, ℕ, zero, suc, ◌+◌, ◌-◌, ◌*�
 use Rattle.std.specs.Option.{unwrap_or}
 
 -- the byte that stands for a digit, in small letters
-abbrev pub glyphOf : ℕ → ℕ
-glyphOf d = cond (nat_lt d 10) (48 + d) (87 + d)
+abbrev pub glyph_of : ℕ → ℕ
+glyph_of d = cond (nat_lt d 10) (48 + d) (87 + d)
 
 -- the digits f gives from a place on, n of them
 abbrev pub glyphs : (ℕ → ℕ) → ℕ → ℕ → List ℕ
 glyphs f at zero = []
-glyphs f at (suc n) = glyphOf (f at) ∷ glyphs f (at + 1) n
+glyphs f at (suc n) = glyph_of (f at) ∷ glyphs f (at + 1) n
 
 -- the number that a byte stands for as a digit, in small or capital letters
-abbrev pub nibbleOf : ℕ → Option ℕ
-nibbleOf b =
+abbrev pub nibble_of : ℕ → Option ℕ
+nibble_of b =
     cond (nat_lt b 48) None
     (cond (nat_lt b 58) (Some (b - 48))
     (cond (nat_lt b 65) None (cond (nat_lt b 71) (Some (b - 55)) (cond (nat_lt b 97) None (cond (nat_lt b 103) (Some (b - 87)) None)))))
 
 -- each byte is a digit
 abbrev pub Digits : List ℕ → Type 0
-Digits w = (k : ℕ) → k < length w → is_some (nibbleOf (slice_index w k)) ≡ true
+Digits w = (k : ℕ) → k < length w → is_some (nibble_of (slice_index w k)) ≡ true
 
 -- `-`, or pairs of digits
 abbrev pub Paired : List ℕ → Type 0
 Paired w = (w ≡ 45 ∷ []) ⊎ ((0 < length w) × (length w % 2 ≡ 0) × Digits w)
 
 -- the digits of such a word, `-` having none
-abbrev pub digitsOf : List ℕ → List ℕ
-digitsOf [] = []
-digitsOf (b ∷ []) = []
-digitsOf (b ∷ c ∷ w) = b ∷ c ∷ w
+abbrev pub digits_of : List ℕ → List ℕ
+digits_of [] = []
+digits_of (b ∷ []) = []
+digits_of (b ∷ c ∷ w) = b ∷ c ∷ w
 
 -- the byte of the pair with the number i, from 0
 abbrev pub byte_at : List ℕ → ℕ → ℕ
-byte_at w i = 16 * unwrap_or (nibbleOf (slice_index w (2 * i))) 0 + unwrap_or (nibbleOf (slice_index w (2 * i + 1))) 0
+byte_at w i = 16 * unwrap_or (nibble_of (slice_index w (2 * i))) 0 + unwrap_or (nibble_of (slice_index w (2 * i + 1))) 0
 
 -- the bytes of all pairs
 pub record Decoded (w bytes : List ℕ) : Type 0 where

@@ -20,9 +20,9 @@ pub record Compares (c : Comparison) (t s : StabilizerState) : Type 0 where
   pub complete : SameState t s → T c.equal
 
 -- 0, or the number of the refusal
-abbrev pub outcomeNumber : Outcome → ℕ
-outcomeNumber (Refused e) = number_of e
-outcomeNumber (Compared c) = 0
+abbrev pub outcome_number : Outcome → ℕ
+outcome_number (Refused e) = number_of e
+outcome_number (Compared c) = 0
 
 abbrev pub Tells : Outcome → StabilizerState → StabilizerState → Type 0
 Tells (Refused e) t s = Unit {0}

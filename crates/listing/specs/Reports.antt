@@ -2,5 +2,5 @@
 use Rattle.archive.specs.Faults.{Report}
 use Rattle.listing.specs.declared.fault_line.FaultLine.{FaultLine}
 
-abbrev pub reportOf : FaultLine → Report
-reportOf f = record { layer = f.layer; number = f.number; sheet = f.sheet; field = f.field; place = f.place }
+abbrev pub report_of : FaultLine → Report
+report_of f = record { layer = f.layer; number = f.number; sheet = f.sheet; field = f.field; place = f.place }

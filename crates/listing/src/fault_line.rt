@@ -1,7 +1,7 @@
 ghost use Rattle.std.specs.Prelude.{◌≡◌, Some};
-ghost use Rattle.archive.specs.Faults.{archiveReport, stateReport};
-ghost use Rattle.listing.specs.Reports.{reportOf};
-ghost use Rattle.listing.specs.Texts.{faultText};
+ghost use Rattle.archive.specs.Faults.{archive_report, state_report};
+ghost use Rattle.listing.specs.Reports.{report_of};
+ghost use Rattle.listing.specs.Texts.{fault_text};
 
 use archive::fault::{ArchiveFault, StateFault};
 use std::fmt;
@@ -17,7 +17,7 @@ pub struct FaultLine {
 }
 
 impl From<ArchiveFault> for FaultLine {
-    ghost from_gives = { λ f r. reportOf r ≡ archiveReport f };
+    ghost from_gives = { λ f r. report_of r ≡ archive_report f };
 
     fn from(fault: ArchiveFault) -> FaultLine {
         FaultLine {
@@ -31,7 +31,7 @@ impl From<ArchiveFault> for FaultLine {
 }
 
 impl From<StateFault> for FaultLine {
-    ghost from_gives = { λ f r. reportOf r ≡ stateReport f };
+    ghost from_gives = { λ f r. report_of r ≡ state_report f };
 
     fn from(fault: StateFault) -> FaultLine {
         FaultLine {
@@ -45,7 +45,7 @@ impl From<StateFault> for FaultLine {
 }
 
 impl fmt::Display for FaultLine {
-    ghost output = { λ x. Some (faultText x) };
+    ghost output = { λ x. Some (fault_text x) };
 
     fn fmt<W: fmt::Write>(&self, f: &mut fmt::Formatter<W>) -> fmt::Result {
         let layer = self.layer;

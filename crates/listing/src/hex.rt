@@ -1,14 +1,14 @@
 ghost use Rattle.std.specs.Prelude.{◌≡◌, ℕ, ◌%◌, ◌<◌, ◌≤◌, length, IfSome, MatchBool, MatchOption, OnOk};
 ghost use Rattle.std.specs.Option.{unwrap_or};
 ghost use Rattle.std.specs.Fmt.{WritesOnOk};
-ghost use Rattle.listing.specs.Digits.{glyphOf, nibbleOf, Digits, Paired, digitsOf, Decoded};
+ghost use Rattle.listing.specs.Digits.{glyph_of, nibble_of, Digits, Paired, digits_of, Decoded};
 
 use std::alloc::AllocError;
 use std::fmt;
 
 // The small hexadecimal digit of a number below 16, and of any other number its last digit.
 pub fn glyph(digit: u8) -> u8
-    ensures { ((digit < 16 → result ≡ glyphOf digit)) × ((result < 128) × (result ≡ glyphOf (digit % 16))) }
+    ensures { ((digit < 16 → result ≡ glyph_of digit)) × ((result < 128) × (result ≡ glyph_of (digit % 16))) }
 {
     match digit % 16 {
         d if d < 10 => b'0' + d,
@@ -18,7 +18,7 @@ pub fn glyph(digit: u8) -> u8
 
 // The number that a hexadecimal digit stands for.
 pub fn nibble(digit: u8) -> Option<u8>
-    ensures { (result ≡ nibbleOf digit) × IfSome result (λ d. d < 16) }
+    ensures { (result ≡ nibble_of digit) × IfSome result (λ d. d < 16) }
 {
     match digit {
         b'0'..=b'9' => Some(digit - b'0'),
@@ -30,7 +30,7 @@ pub fn nibble(digit: u8) -> Option<u8>
 
 // The same, and 0 for what is no digit.
 fn nibble_or_zero(digit: u8) -> u8
-    ensures { (result ≡ unwrap_or (nibbleOf digit) 0) × (result < 16) }
+    ensures { (result ≡ unwrap_or (nibble_of digit) 0) × (result < 16) }
 {
     match nibble(digit) {
         Some(value) => value,
@@ -47,7 +47,7 @@ pub struct Hex<'a> {
 impl<'a> Hex<'a> {
     // The word as such a run, if it is one.
     pub fn new(word: &'a [u8]) -> Option<Hex<'a>>
-        ensures { MatchOption result (Paired word.now → ⊥) (λ h. Paired word.now × (h.digits.now ≡ digitsOf word.now)) }
+        ensures { MatchOption result (Paired word.now → ⊥) (λ h. Paired word.now × (h.digits.now ≡ digits_of word.now)) }
     {
         if word.len() == 1 && word[0] == b'-' {
             return Some(Hex { digits: &[] });

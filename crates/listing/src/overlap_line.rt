@@ -1,7 +1,7 @@
 ghost use Rattle.std.specs.Prelude.{◌≡◌, Some};
 ghost use Rattle.cyclotomic.specs.Refusals.{answer_of};
-ghost use Rattle.stabilizer.specs.Overlaps.{sizesNumber, Overlapping};
-ghost use Rattle.listing.specs.Texts.{overlapText};
+ghost use Rattle.stabilizer.specs.Overlaps.{sizes_number, Overlapping};
+ghost use Rattle.listing.specs.Texts.{overlap_text};
 
 use crate::text::ScalarText;
 use cyclotomic::refusal::Refusal;
@@ -21,7 +21,7 @@ pub struct OverlapLine {
 // The line of the states t and s, which have the numbers i and j.
 pub fn overlap_line(i: u64, j: u64, t: &StabilizerState, s: &StabilizerState) -> OverlapLine
     ensures numbers { (result.i ≡ i) × (result.j ≡ j) }
-    ensures number { answer_of result.overlap ≡ sizesNumber t.now s.now }
+    ensures number { answer_of result.overlap ≡ sizes_number t.now s.now }
     ensures value { Overlapping result.overlap t.now s.now }
 {
     OverlapLine {
@@ -32,7 +32,7 @@ pub fn overlap_line(i: u64, j: u64, t: &StabilizerState, s: &StabilizerState) ->
 }
 
 impl fmt::Display for OverlapLine {
-    ghost output = { λ x. Some (overlapText x) };
+    ghost output = { λ x. Some (overlap_text x) };
 
     fn fmt<W: fmt::Write>(&self, f: &mut fmt::Formatter<W>) -> fmt::Result {
         let i = self.i;

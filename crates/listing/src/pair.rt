@@ -1,7 +1,7 @@
 ghost use Rattle.std.specs.Prelude.{◌≡◌, IfOk};
 ghost use Rattle.cyclotomic.specs.Refusals.{answer_of};
-ghost use Rattle.stabilizer.specs.Overlaps.{sizesNumber};
-ghost use Rattle.listing.specs.Lines.{Compares, outcomeNumber, Tells};
+ghost use Rattle.stabilizer.specs.Overlaps.{sizes_number};
+ghost use Rattle.listing.specs.Lines.{Compares, outcome_number, Tells};
 
 use crate::columns::columns_of;
 use crate::comparison::{Comparison, Outcome, PairLine};
@@ -13,7 +13,7 @@ use stabilizer::state::StabilizerState;
 // The line of the states t and s, which have the numbers i and j.
 pub fn pair_line(i: u64, j: u64, t: &StabilizerState, s: &StabilizerState) -> PairLine
     ensures numbers { (result.i ≡ i) × (result.j ≡ j) }
-    ensures number { outcomeNumber result.outcome ≡ sizesNumber t.now s.now }
+    ensures number { outcome_number result.outcome ≡ sizes_number t.now s.now }
     ensures told { Tells result.outcome t.now s.now }
 {
     let outcome = match compare(t, s) {
@@ -25,7 +25,7 @@ pub fn pair_line(i: u64, j: u64, t: &StabilizerState, s: &StabilizerState) -> Pa
 
 // The overlap of t and s, the columns of their intersection, and whether they are the same state.
 pub fn compare(t: &StabilizerState, s: &StabilizerState) -> Result<Comparison, Refusal>
-    ensures number { answer_of result ≡ sizesNumber t.now s.now }
+    ensures number { answer_of result ≡ sizes_number t.now s.now }
     ensures value { IfOk result (λ c. Compares c t.now s.now) }
 {
     let mut both = Intersection::Empty;

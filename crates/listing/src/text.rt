@@ -1,7 +1,7 @@
 ghost use Rattle.std.specs.Prelude.{◌≡◌, ℕ, ◌<◌, List, length, Some, slice_index};
 ghost use Rattle.cyclotomic.specs.Scalars.{triple_of};
-ghost use Rattle.listing.specs.Digits.{glyphOf, glyphs};
-ghost use Rattle.listing.specs.Texts.{tripleText, columnsText, outcomeText, lineText};
+ghost use Rattle.listing.specs.Digits.{glyph_of, glyphs};
+ghost use Rattle.listing.specs.Texts.{triple_text, columns_text, outcome_text, line_text};
 
 use crate::columns::Columns;
 use crate::comparison::{Outcome, PairLine};
@@ -18,7 +18,7 @@ const WIDEST: usize = 64;
 pub struct ScalarText(pub Scalar);
 
 impl fmt::Display for ScalarText {
-    ghost output = { λ x. Some (tripleText (triple_of x.0)) };
+    ghost output = { λ x. Some (triple_text (triple_of x.0)) };
 
     fn fmt<W: fmt::Write>(&self, f: &mut fmt::Formatter<W>) -> fmt::Result {
         let epsilon = self.0.epsilon();
@@ -47,7 +47,7 @@ impl<C: Column> fmt::Display for ColumnText<C> {
 
 // The digits of a value of a ring; past its last digit they are 0.
 pub fn column_digits<C: Column>(value: C) -> [u8; WIDEST]
-    ensures { (k : ℕ) → k < 64 → slice_index result k ≡ glyphOf (C.Column.digit_of value k) }
+    ensures { (k : ℕ) → k < 64 → slice_index result k ≡ glyph_of (C.Column.digit_of value k) }
 {
     let mut digits = [0; WIDEST];
     for place in 0..WIDEST {
@@ -61,7 +61,7 @@ pub fn column_digits<C: Column>(value: C) -> [u8; WIDEST]
 pub struct ColumnsText(pub Option<Columns>);
 
 impl fmt::Display for ColumnsText {
-    ghost output = { λ x. Some (columnsText x.0) };
+    ghost output = { λ x. Some (columns_text x.0) };
 
     fn fmt<W: fmt::Write>(&self, f: &mut fmt::Formatter<W>) -> fmt::Result {
         match self.0 {
@@ -76,7 +76,7 @@ impl fmt::Display for ColumnsText {
 }
 
 impl fmt::Display for Outcome {
-    ghost output = { λ x. Some (outcomeText x) };
+    ghost output = { λ x. Some (outcome_text x) };
 
     fn fmt<W: fmt::Write>(&self, f: &mut fmt::Formatter<W>) -> fmt::Result {
         match self {
@@ -95,7 +95,7 @@ impl fmt::Display for Outcome {
 }
 
 impl fmt::Display for PairLine {
-    ghost output = { λ x. Some (lineText x) };
+    ghost output = { λ x. Some (line_text x) };
 
     fn fmt<W: fmt::Write>(&self, f: &mut fmt::Formatter<W>) -> fmt::Result {
         let i = self.i;

@@ -11,7 +11,7 @@ use Rattle.cyclotomic.proofs.Sums
 use Rattle.quadratic.specs.Bits.{bit, dot}
 use Rattle.quadratic.specs.Quadratic.{coef, link}
 use Rattle.quadratic.specs.Numbering.{spread}
-use Rattle.quadratic.specs.Sums.{over, formPower, left_of, total, Reduced, Stepped}
+use Rattle.quadratic.specs.Sums.{over, form_power, left_of, total, Reduced, Stepped}
 use Rattle.quadratic.specs.Value.{value_at}
 use Rattle.quadratic.specs.declared.form.QuadraticForm.{QuadraticForm}
 use Rattle.quadratic.specs.declared.intersection.Intersection.TheVariants.{Space}
@@ -69,7 +69,7 @@ module _ (f : QuadraticForm) (live a : ℕ) (inside : live < 2 ^ 48) (on : bit l
         let four : coef f.odd f.neg a ≡ 4 = omega (arith, nz, even, l) in
         ap (omegas.times (rpow omegas power))
         (lone-zero omega-laws (value_at f) live a (get_or f.coupling a 0) 4 on place (slope 4 four) alone refl)
-        ∙ CommFacts.times-nil omega-laws.comm (rpow omegas power)
+        ∙ CommFacts.times_nil omega-laws.comm (rpow omegas power)
 
 -- two numbers 0 or 4, as their common bits
 both-four : (α β : ℕ) → α < 2 → β < 2 → bit_and (4 * α) (4 * β) ≡ 4 * (α * β)
@@ -126,13 +126,13 @@ ended f live power z =
     ∙ ap (omegas.times (rpow omegas power)) (over_none omega-laws.comm _ 48 0 ∙ ap (wpow omegas) (value-zero f))
 
 -- the sum over all strings, by their numbers, in any ring
-pub over-total : {R : Type 0} {o : Ops R} (laws : CommLaws o) (s : PhasedSpace) → over o (formPower o s.form) s.space.pivots 48 0
+pub over-total : {R : Type 0} {o : Ops R} (laws : CommLaws o) (s : PhasedSpace) → over o (form_power o s.form) s.space.pivots 48 0
     ≡ total o (Space s)
 over-total {o = o} laws s =
     let P = s.space.pivots in
-    over-numbered laws (formPower o s.form) P 48 0
+    over-numbered laws (form_power o s.form) P 48 0
     ∙ ap (sum_to o _) (ap (λ n. 2 ^ n) (sym (ones_low 48 P) ∙ ap ones (mod-eq_of_lt s.space.within)))
-    ∙ Sums.sum_same laws _ _ (2 ^ ones P) (λ c l. ap (formPower o s.form) (xor_zero_l (spread 48 P c)))
+    ∙ Sums.sum_same laws _ _ (2 ^ ones P) (λ c l. ap (form_power o s.form) (xor_zero_l (spread 48 P c)))
 
 pub numbered : (s : PhasedSpace) → left_of omegas s.form s.space.pivots 0 ≡ total omegas (Space s)
-numbered s = CommFacts.one-times omega-laws.comm _ ∙ over-total omega-laws.comm s
+numbered s = CommFacts.one_times omega-laws.comm _ ∙ over-total omega-laws.comm s

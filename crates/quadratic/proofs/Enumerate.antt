@@ -14,7 +14,7 @@ use Rattle.quadratic.specs.Echelon.{row, combination, reduced}
 use Rattle.quadratic.specs.Numbering.{spread}
 use Rattle.quadratic.specs.Phase.{phase}
 use Rattle.quadratic.specs.Strings.{Member, Under}
-use Rattle.quadratic.specs.Sums.{termAt, termOf}
+use Rattle.quadratic.specs.Sums.{term_at, term_of}
 use Rattle.quadratic.specs.Value.{value_at}
 use Rattle.quadratic.specs.declared.affine.AffineSpace.{AffineSpace}
 use Rattle.quadratic.specs.declared.phased.PhasedSpace.{PhasedSpace}
@@ -149,7 +149,7 @@ module _ (s : AffineSpace) where
 
 -- the sum over the numbers is the sum over all strings of n bits
 pub sum-strings : {R : Type 0} {o : Ops R} → CommLaws o → (s : PhasedSpace) (n : ℕ) → Under s.space n
-    → sum_to o (termAt o s) (2 ^ ones s.space.pivots) ≡ sum_to o (λ y. termOf o (phase s y)) (2 ^ n)
+    → sum_to o (term_at o s) (2 ^ ones s.space.pivots) ≡ sum_to o (λ y. term_of o (phase s y)) (2 ^ n)
 unfolding phase
 sum-strings {R} {o} laws s n u =
     Sums.sum_same laws _ _ (2 ^ ones s.space.pivots) (λ c l. ap (wpow o) (sym (s.idle (point s.space c)
@@ -158,6 +158,6 @@ sum-strings {R} {o} laws s n u =
     (λ y. wpow o (value_at s.form y)) (numbered s.space n u)
     ∙ Sums.sum_same laws _ _ (2 ^ n) (λ y l. term (inside s.space y) (value_at s.form y))
   where
-    term : (b : Bool) (v : ℕ) → only o b (wpow o v) ≡ termOf o (cond b (Some v) None)
+    term : (b : Bool) (v : ℕ) → only o b (wpow o v) ≡ term_of o (cond b (Some v) None)
     term true v = refl
     term false v = refl

@@ -102,7 +102,7 @@ module _ {R : Type 0} {o : Ops R} (laws : CommLaws o) where
       elim (ℕ_discrete (bit mask n) 1) [
         | yes on ↦
             over-on _ mask n c on ∙ ap₂ ◌⊕◌ (over-times k f mask n c) (over-times k f mask n (bit_xor c (2 ^ n)))
-            ∙ sym (laws.times-plus k _ _)
+            ∙ sym (laws.times_plus k _ _)
             ∙ ap (◌⊗◌ k) (sym (over-on f mask n c on))
         | no off ↦ over-off _ mask n c off ∙ over-times k f mask n c ∙ ap (◌⊗◌ k) (sym (over-off f mask n c off))
       ]
@@ -184,7 +184,7 @@ module _ {R : Type 0} {o : Ops R} (laws : CommLaws o) where
   -- the parts of a mask are its strings by number
   pub over-numbered : (f : ℕ → R) (mask n c : ℕ) → over o f mask n c ≡ sum_to o (λ x. f (bit_xor c (spread n mask x))) (2 ^ sum (bit mask) n)
   unfolding over spread
-  over-numbered f mask zero c = sym (CommFacts.nil-plus laws _ ∙ ap f (xor_zero_r c))
+  over-numbered f mask zero c = sym (CommFacts.nil_plus laws _ ∙ ap f (xor_zero_r c))
   over-numbered f mask (suc n) c =
       elim (ℕ_discrete (bit mask n) 1) [
         | yes on ↦

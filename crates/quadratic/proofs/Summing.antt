@@ -93,7 +93,7 @@ module _ {R : Type 0} {o : Ops R} (laws : RingLaws o) where
       lone-out d = summed (two o) (λ c. wpow o (v c)) (λ x p.
           ap (λ n. wpow o (v x) ⊕ wpow o (v x + n)) (ap₂ (λ e y. e + 4 * y) d (no-dot x p))
           ∙ ap (λ n. wpow o (v x) ⊕ wpow o n) (add-zero (v x))
-          ∙ sym (CommFacts.two-times comm (wpow o (v x))))
+          ∙ sym (CommFacts.two_times comm (wpow o (v x))))
 
       pub lone-zero : D ≡ 4 → over o (λ c. wpow o (v c)) live 48 0 ≡ nil
       lone-zero d =
@@ -101,8 +101,8 @@ module _ {R : Type 0} {o : Ops R} (laws : RingLaws o) where
           ap (λ n. wpow o (v x) ⊕ wpow o (v x + n)) (ap₂ (λ e y. e + 4 * y) d (no-dot x p))
           ∙ ap (◌⊕◌ (wpow o (v x))) (RingFacts.wpow-mod laws _ (4 + v x) (omega arith) ∙ RingFacts.wpow-add laws 4 (v x))
           ∙ RingFacts.and-fourth laws (wpow o (v x))
-          ∙ sym (CommFacts.times-nil comm nil))
-          ∙ CommFacts.nil-times comm _
+          ∙ sym (CommFacts.times_nil comm nil))
+          ∙ CommFacts.nil_times comm _
 
   -- two coupled variables, with the coefficients 4 α and 4 β
   module _ (v : ℕ → ℕ) (live a b row col α β : ℕ) (on : bit live a ≡ 1) (on' : bit live b ≡ 1) (apart : b ≡ a → ⊥)
@@ -157,12 +157,12 @@ module _ {R : Type 0} {o : Ops R} (laws : RingLaws o) where
   -- one root, or two, move to the power before the sum
   pub root-out : (p : ℕ) (x y : R) → x ≡ root o ⊗ y → rpow o (p + 1) ⊗ y ≡ rpow o p ⊗ x
   root-out p x y e =
-      ap (λ n. rpow o n ⊗ y) (add-one p) ∙ ap (λ t. t ⊗ y) (comm.times-comm (root o) (rpow o p))
-      ∙ comm.times-assoc (rpow o p) (root o) y ∙ ap (◌⊗◌ (rpow o p)) (sym e)
+      ap (λ n. rpow o n ⊗ y) (add-one p) ∙ ap (λ t. t ⊗ y) (comm.times_comm (root o) (rpow o p))
+      ∙ comm.times_assoc (rpow o p) (root o) y ∙ ap (◌⊗◌ (rpow o p)) (sym e)
 
   pub two_out : (p : ℕ) (x y : R) → x ≡ two o ⊗ y → rpow o (p + 2) ⊗ y ≡ rpow o p ⊗ x
   two_out p x y e =
       let n : p + 2 ≡ p + 1 + 1 = omega arith in
       ap (λ n. rpow o n ⊗ y) n ∙ root-out (p + 1) (root o ⊗ y) y refl
-      ∙ root-out p (two o ⊗ y) (root o ⊗ y) (ap (λ t. t ⊗ y) (sym (RingFacts.root-square laws)) ∙ comm.times-assoc (root o) (root o) y)
+      ∙ root-out p (two o ⊗ y) (root o ⊗ y) (ap (λ t. t ⊗ y) (sym (RingFacts.root-square laws)) ∙ comm.times_assoc (root o) (root o) y)
       ∙ ap (◌⊗◌ (rpow o p)) (sym e)

@@ -15,13 +15,13 @@ less (Some a) (Some b) = Some ((a + (8 - b)) % 8)
 less (Some a) None = None
 less None b = None
 
-abbrev pub phaseIn : Option PhasedSpace → ℕ → Option ℕ
-phaseIn (Some s) y = phase s y
-phaseIn None y = None
+abbrev pub phase_in : Option PhasedSpace → ℕ → Option ℕ
+phase_in (Some s) y = phase s y
+phase_in None y = None
 
 -- the strings in both spaces, each with the phase of s less that of t
 abbrev pub Meets : Option PhasedSpace → PhasedSpace → PhasedSpace → Type 0
-Meets r s t = (y : ℕ) → phaseIn r y ≡ less (phase s y) (phase t y)
+Meets r s t = (y : ℕ) → phase_in r y ≡ less (phase s y) (phase t y)
 
 -- among strings of n bits, what two spaces share has at least the sum of their dimensions less n
 abbrev pub Wide : Option PhasedSpace → PhasedSpace → PhasedSpace → Type 0

@@ -1,16 +1,16 @@
 -- What adding a string to a running sum does.
 use Rattle.std.specs.Prelude.{ℕ, cond, nat_lt}
 use Rattle.cyclotomic.specs.Ring.{Ops}
-use Rattle.quadratic.specs.Meets.{stringsIn}
-use Rattle.quadratic.specs.Sums.{termAt}
+use Rattle.quadratic.specs.Meets.{strings_in}
+use Rattle.quadratic.specs.Sums.{term_at}
 use Rattle.quadratic.specs.declared.intersection.Intersection.{Intersection}
 use Rattle.quadratic.specs.declared.intersection.Intersection.TheVariants.{Empty, Space}
 
 -- refused with 24 once every string has been added, and at once where there is none
-abbrev pub addNumber : ℕ → Intersection → ℕ
-addNumber count x = cond (nat_lt count (stringsIn x)) 0 24
+abbrev pub add_number : ℕ → Intersection → ℕ
+add_number count x = cond (nat_lt count (strings_in x)) 0 24
 
 -- w to the power of the form's value at the string numbered by c
-abbrev pub termIn : {R : Type 0} → Ops R → Intersection → ℕ → R
-termIn o Empty c = o.nil
-termIn o (Space s) c = termAt o s c
+abbrev pub term_in : {R : Type 0} → Ops R → Intersection → ℕ → R
+term_in o Empty c = o.nil
+term_in o (Space s) c = term_at o s c

@@ -14,18 +14,18 @@ use Rattle.quadratic.specs.declared.intersection.Intersection.{Intersection}
 use Rattle.quadratic.specs.declared.intersection.Intersection.TheVariants.{Empty, Space}
 
 -- w to the power of the form's value at the string numbered by c
-abbrev pub termAt : {R : Type 0} → Ops R → PhasedSpace → ℕ → R
-termAt o s c = wpow o (value_at s.form (spread 48 s.space.pivots c))
+abbrev pub term_at : {R : Type 0} → Ops R → PhasedSpace → ℕ → R
+term_at o s c = wpow o (value_at s.form (spread 48 s.space.pivots c))
 
 -- w to the power of a phase, and nil where there is none
-abbrev pub termOf : {R : Type 0} → Ops R → Option ℕ → R
-termOf o (Some m) = wpow o m
-termOf o None = o.nil
+abbrev pub term_of : {R : Type 0} → Ops R → Option ℕ → R
+term_of o (Some m) = wpow o m
+term_of o None = o.nil
 
 -- the sum over all strings, in a ring
 abbrev pub total : {R : Type 0} → Ops R → Intersection → R
 total o Empty = o.nil
-total o (Space s) = sum_to o (termAt o s) (2 ^ count_ones s.space.pivots)
+total o (Space s) = sum_to o (term_at o s) (2 ^ count_ones s.space.pivots)
 
 -- zero, or 2^(p/2) ω^m with d ≤ p ≤ 2 d
 abbrev pub Between : ℕ → Scalar → Type 0
@@ -51,12 +51,12 @@ over o f mask zero c = f c
 over o f mask (suc n) c = cond (bit mask n == 1) (o.plus (over o f mask n c) (over o f mask n (bit_xor c (2 ^ n)))) (over o f mask n c)
 
 -- w to the power of a form's value
-abbrev pub formPower : {R : Type 0} → Ops R → QuadraticForm → ℕ → R
-formPower o f c = wpow o (value_at f c)
+abbrev pub form_power : {R : Type 0} → Ops R → QuadraticForm → ℕ → R
+form_power o f c = wpow o (value_at f c)
 
 -- the root of 2 to a power times the sum over the live variables
 abbrev pub left_of : {R : Type 0} → Ops R → QuadraticForm → ℕ → ℕ → R
-left_of o f live power = o.times (rpow o power) (over o (formPower o f) live 48 0)
+left_of o f live power = o.times (rpow o power) (over o (form_power o f) live 48 0)
 
 -- the sum stays as it was while `gone` variables go and the power rises by `more`
 pub record Reduced (f f' : QuadraticForm) (live live' power power' gone more : ℕ) : Type 0 where

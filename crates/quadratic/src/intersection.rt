@@ -1,5 +1,5 @@
 ghost use Rattle.std.specs.Prelude.{◌≡◌, ℕ};
-ghost use Rattle.quadratic.specs.Meets.{dimensionIn, phaseIn, shiftIn, row_in, linearIn, couplingIn};
+ghost use Rattle.quadratic.specs.Meets.{dimension_in, phase_in, shift_inside, row_in, linear_in, coupling_in};
 
 use crate::phased::PhasedSpace;
 
@@ -13,7 +13,7 @@ pub enum Intersection {
 impl Intersection {
     // The number of rows; none where the intersection is empty.
     pub fn dimension(&self) -> Option<u64>
-        ensures { result ≡ dimensionIn self.now }
+        ensures { result ≡ dimension_in self.now }
     {
         match self {
             Intersection::Empty => None,
@@ -22,7 +22,7 @@ impl Intersection {
     }
 
     pub fn phase(&self) -> Option<u64>
-        ensures { result ≡ phaseIn self.now }
+        ensures { result ≡ phase_in self.now }
     {
         match self {
             Intersection::Empty => None,
@@ -31,7 +31,7 @@ impl Intersection {
     }
 
     pub fn shift(&self) -> Option<u64>
-        ensures { result ≡ shiftIn self.now }
+        ensures { result ≡ shift_inside self.now }
     {
         match self {
             Intersection::Empty => None,
@@ -51,7 +51,7 @@ impl Intersection {
 
     // The linear coefficient of row a.
     pub fn linear(&self, a: u64) -> Option<u64>
-        ensures { result ≡ linearIn self.now a }
+        ensures { result ≡ linear_in self.now a }
     {
         match self {
             Intersection::Empty => None,
@@ -61,7 +61,7 @@ impl Intersection {
 
     // The coupling of rows a and b.
     pub fn coupling(&self, a: u64, b: u64) -> Option<u64>
-        ensures { result ≡ couplingIn self.now a b }
+        ensures { result ≡ coupling_in self.now a b }
     {
         match self {
             Intersection::Empty => None,

@@ -1,10 +1,10 @@
 ghost use Rattle.std.specs.Prelude.{◌≡◌, ℕ, ◌+◌, ◌^◌, ◌<◌};
 ghost use Rattle.cyclotomic.specs.Refusals.{answer_of};
-ghost use Rattle.quadratic.specs.Meets.{stringsIn};
-ghost use Rattle.quadratic.specs.Running.{addNumber, termIn};
+ghost use Rattle.quadratic.specs.Meets.{strings_in};
+ghost use Rattle.quadratic.specs.Running.{add_number, term_in};
 ghost use Rattle.quadratic.specs.Table.{PowersOf};
 ghost use Rattle.cyclotomic.specs.Ring.{wpow};
-ghost use Rattle.quadratic.specs.Sums.{total as total_of, IsSum, over, formPower};
+ghost use Rattle.quadratic.specs.Sums.{total as total_of, IsSum, over, form_power};
 ghost use Rattle.cyclotomic.specs.Scalars.{triple_of, embedded};
 ghost use Rattle.cyclotomic.specs.declared.scalar.Scalar.{Scalar};
 ghost use Rattle.quadratic.specs.Value.{value_at};
@@ -37,9 +37,9 @@ impl<R: Ring> RunningSum<R> {
 
     // Adds the string that the count numbers: row a is in string c when bit a - 1 of c is 1.
     pub fn add(&mut self, x: &Intersection) -> Result<(), Refusal>
-        ensures number { answer_of result ≡ addNumber self.old.count x.now }
+        ensures number { answer_of result ≡ add_number self.old.count x.now }
         ensures count { answer_of result ≡ 0 → self.new.count ≡ self.old.count + 1 }
-        ensures value { answer_of result ≡ 0 → R.value self.new.value ≡ R.ops.plus (R.value self.old.value) (termIn R.ops x.now self.old.count) }
+        ensures value { answer_of result ≡ 0 → R.value self.new.value ≡ R.ops.plus (R.value self.old.value) (term_in R.ops x.now self.old.count) }
         ensures refused { 0 < answer_of result → self.new ≡ self.old }
     {
         let Intersection::Space(s) = x else {
@@ -72,7 +72,7 @@ impl<R: Ring> RunningSum<R> {
 // The running sum to which every string of the intersection has been added.
 pub fn total<R: Ring>(x: &Intersection) -> RunningSum<R>
     ensures value { R.value result.value ≡ total_of R.ops x.now }
-    ensures count { result.count ≡ stringsIn x.now }
+    ensures count { result.count ≡ strings_in x.now }
     ensures closed { (e : Scalar) → IsSum x.now e → R.value result.value ≡ embedded R.ops (triple_of e) }
 {
     let Intersection::Space(s) = x else {
@@ -144,7 +144,7 @@ fn branch<R: Ring>(form: &QuadraticForm, table: &Powers<R>, mask: u64, c: u64, p
     requires small { phase < 8 }
     requires here { phase ≡ value_at form.now c }
     requires table { PowersOf R.ops R.value table.now }
-    ensures { R.value result ≡ over R.ops (formPower R.ops form.now) mask 48 c }
+    ensures { R.value result ≡ over R.ops (form_power R.ops form.now) mask 48 c }
 {
     if mask == 0 {
         return table.at(phase);

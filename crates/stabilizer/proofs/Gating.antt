@@ -11,9 +11,9 @@ use Rattle.quadratic.proofs.Extent.{phases-below, space-below}
 use Rattle.quadratic.proofs.Dots.{dot-comm, dot-pow}
 use Rattle.quadratic.proofs.Turning.{unturned}
 use Rattle.stabilizer.specs.Calls.{rotated, Applied, AppliedBy, Gated}
-use Rattle.stabilizer.specs.Gates.{Monomial, takes, gateOf, gateMatrix, operandsNumber}
+use Rattle.stabilizer.specs.Gates.{Monomial, takes, gate_numbered, gate_matrix, operands_number}
 use Rattle.stabilizer.specs.Moved.{Two, Moved}
-use Rattle.stabilizer.specs.States.{amplitudeOf}
+use Rattle.stabilizer.specs.States.{amplitude_of}
 use Rattle.stabilizer.specs.declared.gate.Gate.{Gate}
 use Rattle.stabilizer.specs.declared.gate.Gate.TheVariants.{X, CNot}
 use Rattle.stabilizer.specs.declared.state.StabilizerState.{StabilizerState}
@@ -57,7 +57,7 @@ module _ (n : ℕ) (M N : Monomial) (op : Opposite n M N) (s s' : PhasedSpace) (
 
 -- with the dimension and the weight as they were, a turned phase is a turned amplitude
 pub amplitude-turned : (s s' : StabilizerState) → s'.loss ≡ s.loss → ones s'.body.space.pivots ≡ ones s.body.space.pivots
-    → (k : ℕ) (a : Option ℕ) → amplitudeOf s' (turn k a) ≡ rotated k (amplitudeOf s a)
+    → (k : ℕ) (a : Option ℕ) → amplitude_of s' (turn k a) ≡ rotated k (amplitude_of s a)
 amplitude-turned s s' l d k (Some m) = ap₂ (λ p i. (1, neg_ℤ (pos p), i)) (ap₂ ◌+◌ l d) (once m k)
   where
     once : (m k : ℕ) → (m + k) % 8 % 8 ≡ (m % 8 + k) % 8
@@ -66,19 +66,19 @@ amplitude-turned s s' l d k None = refl
 
 -- a gate that was applied to the body was applied to the state
 pub gate-applied : (s s' : StabilizerState) (g : Gate) (j l : ℕ) → s'.qubits ≡ s.qubits → s'.loss ≡ s.loss
-    → Moved g (s.qubits - j) (s.qubits - l) s.body s'.body → Applied (gateMatrix s.qubits g j l) s s'
+    → Moved g (s.qubits - j) (s.qubits - l) s.body s'.body → Applied (gate_matrix s.qubits g j l) s s'
 gate-applied s s' g j l q e h = record {
   qubits = q;
   loss = e;
   dimension = h.rows;
-  amplitudes = λ y. ap (amplitudeOf s') (h.phases y) ∙ amplitude-turned s s' e h.rows _ _;
+  amplitudes = λ y. ap (amplitude_of s') (h.phases y) ∙ amplitude-turned s s' e h.rows _ _;
 }
 
 -- what a call of a gate that takes its qubits says
-pub gated : (kind j l : ℕ) (s s' : StabilizerState) (g : Gate) → gateOf kind ≡ Some g → takes g s.qubits j l ≡ true
-    → Applied (gateMatrix s.qubits g j l) s s' → Gated kind j l s 0 s'
+pub gated : (kind j l : ℕ) (s s' : StabilizerState) (g : Gate) → gate_numbered kind ≡ Some g → takes g s.qubits j l ≡ true
+    → Applied (gate_matrix s.qubits g j l) s s' → Gated kind j l s 0 s'
 gated kind j l s s' g e t h = record {
-  number = sym (ap (λ o. operandsNumber o s.qubits j l) e ∙ cond-true _ 0 10 t);
+  number = sym (ap (λ o. operands_number o s.qubits j l) e ∙ cond-true _ 0 10 t);
   granted = λ z. subst (λ o. AppliedBy o j l s s') (sym e) h;
   refused = λ z. absurd (omega arith);
 }

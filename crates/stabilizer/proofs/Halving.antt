@@ -23,9 +23,9 @@ use Rattle.quadratic.proofs.Same.{has-phase}
 use Rattle.stabilizer.specs.Calls.{applied, doubled, Vanishes, Becomes, Projected, halved}
 use Rattle.stabilizer.specs.Masks.{SignedMasks}
 use Rattle.stabilizer.specs.Overlaps.{depth}
-use Rattle.stabilizer.specs.Paulis.{Pauli, flips, turns, pauliMatrix}
+use Rattle.stabilizer.specs.Paulis.{Pauli, flips, turns, pauli_matrix}
 use Rattle.stabilizer.specs.Projections.{term, operated, sum_at, Summed}
-use Rattle.stabilizer.specs.States.{amplitudeOf}
+use Rattle.stabilizer.specs.States.{amplitude_of}
 use Rattle.stabilizer.specs.Vectors.{entry}
 use Rattle.stabilizer.specs.declared.pauli.PauliMasks.{PauliMasks}
 use Rattle.stabilizer.specs.declared.state.StabilizerState.{StabilizerState}
@@ -44,9 +44,9 @@ scale s = 4144 - depth s
 pub entry-is : (s : StabilizerState) (y : ℕ) → entry s y ≡ rpow omegas (scale s) ⊗ term (phase s.body y)
 entry-is s y = go (phase s.body y)
   where
-    go : (a : Option ℕ) → scaled 4144 (amplitudeOf s a) ≡ rpow omegas (scale s) ⊗ term a
+    go : (a : Option ℕ) → scaled 4144 (amplitude_of s a) ≡ rpow omegas (scale s) ⊗ term a
     go (Some m) = scaled-unit 4144 (scale s) (neg_ℤ (pos (depth s))) m (below 4144 (depth s) (depth_le s))
-    go None = scaled-nought 4144 ∙ sym (CommFacts.times-nil laws _)
+    go None = scaled-nought 4144 ∙ sym (CommFacts.times_nil laws _)
 
 -- a power of √2 times a string's term is not 0
 term-some : (j : ℕ) (a : Option ℕ) (m : ℕ) → a ≡ Some m → rpow omegas j ⊗ term a ≡ nil → ⊥
@@ -63,22 +63,22 @@ module _ (m : PauliMasks) (P : Pauli) (s : StabilizerState) (h : SignedMasks P m
       let r = rpow omegas (scale s) in
       let x = bit_xor y m.flips in
       let k = 2 * m.quarters + 4 * dot m.signs x in
-      let moves : applied (pauliMatrix P) (entry s) y ≡ r ⊗ term (operated m s.body y) =
+      let moves : applied (pauli_matrix P) (entry s) y ≡ r ⊗ term (operated m s.body y) =
       ap₂ ◌⊗◌ (RingFacts.wpow-mod omega-laws (4 * P.minus + turns P.letters (bit_xor y f)) k
       (ap (λ z. (4 * P.minus + turns P.letters (bit_xor y z)) % 8) (sym h.flips) ∙ h.turns x))
       (ap (λ z. entry s (bit_xor y z)) (sym h.flips) ∙ entry-is s x)
-      ∙ CommFacts.times-left-comm laws (wpow omegas k) r (term (phase s.body x))
+      ∙ CommFacts.times_left_comm laws (wpow omegas k) r (term (phase s.body x))
       ∙ ap (◌⊗◌ r) (sym (term-turn k (phase s.body x))) in
-      ap₂ ◌⊕◌ (entry-is s y) moves ∙ sym (laws.times-plus r _ _)
+      ap₂ ◌⊕◌ (entry-is s y) moves ∙ sym (laws.times_plus r _ _)
 
   -- ---- nothing is left, or all
 
   pub vanishes : ((y : ℕ) → sum_at m s.body y ≡ nil) → Vanishes P s
-  vanishes z y l = doubled-is y ∙ ap (◌⊗◌ _) (z y) ∙ CommFacts.times-nil laws _
+  vanishes z y l = doubled-is y ∙ ap (◌⊗◌ _) (z y) ∙ CommFacts.times_nil laws _
 
   pub stays : ((y : ℕ) → sum_at m s.body y ≡ two omegas ⊗ term (phase s.body y)) → Becomes P s s
   stays z y l =
-      ap (◌⊗◌ (two omegas)) (entry-is s y) ∙ CommFacts.times-left-comm laws (two omegas) (rpow omegas (scale s)) (term (phase s.body y))
+      ap (◌⊗◌ (two omegas)) (entry-is s y) ∙ CommFacts.times_left_comm laws (two omegas) (rpow omegas (scale s)) (term (phase s.body y))
       ∙ ap (◌⊗◌ _) (sym (z y)) ∙ sym (doubled-is y)
 
 -- a state that stays does not vanish
@@ -86,7 +86,7 @@ pub not-nothing : (P : Pauli) (s : StabilizerState) → Becomes P s s → Vanish
 not-nothing P s b v =
     let y = s.body.space.shift in
     term-some (2 + scale s) (phase s.body y) _ (shift-phase s.body)
-    (ap (λ x. x ⊗ term (phase s.body y)) (RingFacts.rpow-add omega-laws 2 (scale s)) ∙ laws.times-assoc _ _ _
+    (ap (λ x. x ⊗ term (phase s.body y)) (RingFacts.rpow-add omega-laws 2 (scale s)) ∙ laws.times_assoc _ _ _
     ∙ ap₂ ◌⊗◌ squared (sym (entry-is s y)) ∙ b y s.near ∙ v y s.near)
 
 -- ---- another body
@@ -123,21 +123,21 @@ module _ (m : PauliMasks) (P : Pauli) (s : StabilizerState) (h : SignedMasks P m
       let e : 2 + scale s' ≡ scale s + sum.root =
       let c = sum.balance in let i = depth_le s in let j = depth_le s' in omega arith in
       ap₂ ◌⊗◌ (sym squared) (entry-is s' y ∙ ap (λ x. rpow omegas (scale s') ⊗ term (phase x y)) b)
-      ∙ sym (laws.times-assoc _ _ _) ∙ ap (λ x. x ⊗ p) (sym (RingFacts.rpow-add omega-laws 2 (scale s')) ∙ ap (rpow omegas) e
+      ∙ sym (laws.times_assoc _ _ _) ∙ ap (λ x. x ⊗ p) (sym (RingFacts.rpow-add omega-laws 2 (scale s')) ∙ ap (rpow omegas) e
       ∙ RingFacts.rpow-add omega-laws (scale s) sum.root)
-      ∙ laws.times-assoc _ _ _ ∙ ap (◌⊗◌ (rpow omegas (scale s))) (sym (sum.sums y)) ∙ sym (doubled-is m P s h y)
+      ∙ laws.times_assoc _ _ _ ∙ ap (◌⊗◌ (rpow omegas (scale s))) (sym (sum.sums y)) ∙ sym (doubled-is m P s h y)
 
   pub not-vanished : Vanishes P s → ⊥
   not-vanished v =
       term-some (scale s + sum.root) (phase t shift) _ (shift-phase t)
-      (ap (λ x. x ⊗ term (phase t shift)) (RingFacts.rpow-add omega-laws (scale s) sum.root) ∙ laws.times-assoc _ _ _
+      (ap (λ x. x ⊗ term (phase t shift)) (RingFacts.rpow-add omega-laws (scale s) sum.root) ∙ laws.times_assoc _ _ _
       ∙ ap (◌⊗◌ (rpow omegas (scale s))) (sym (sum.sums shift)) ∙ sym (doubled-is m P s h shift) ∙ v shift body_below.1)
 
   -- the old state would have to have the terms of the new one
   module _ (b : Becomes P s s) where
     terms : (y : ℕ) → y < 2 ^ s.qubits → rpow omegas 2 ⊗ term (phase s.body y) ≡ rpow omegas sum.root ⊗ term (phase t y)
     terms y l =
-        cancel (scale s) _ _ (CommFacts.times-left-comm laws _ _ _ ∙ ap₂ ◌⊗◌ squared (sym (entry-is s y)) ∙ b y l ∙ doubled-is m P s h y
+        cancel (scale s) _ _ (CommFacts.times_left_comm laws _ _ _ ∙ ap₂ ◌⊗◌ squared (sym (entry-is s y)) ∙ b y l ∙ doubled-is m P s h y
         ∙ ap (◌⊗◌ (rpow omegas (scale s))) (sum.sums y))
 
     root-two : sum.root ≡ 2
@@ -149,7 +149,7 @@ module _ (m : PauliMasks) (P : Pauli) (s : StabilizerState) (h : SignedMasks P m
             ∙ ap (λ a. rpow omegas sum.root ⊗ term a) (shift-phase t))).0
         go None p =
             absurd (term-some sum.root (phase t shift) _ (shift-phase t) (sym (terms shift body_below.1)
-            ∙ ap (λ a. rpow omegas 2 ⊗ term a) p ∙ CommFacts.times-nil laws _))
+            ∙ ap (λ a. rpow omegas 2 ⊗ term a) p ∙ CommFacts.times_nil laws _))
 
     same-term : (y : ℕ) → y < 2 ^ s.qubits → term (phase s.body y) ≡ term (phase t y)
     same-term y l = cancel 2 _ _ (terms y l ∙ ap (λ r. rpow omegas r ⊗ term (phase t y)) root-two)
@@ -178,7 +178,7 @@ module _ (m : PauliMasks) (P : Pauli) (s : StabilizerState) (h : SignedMasks P m
           go : (a : Option ℕ) → phase v y ≡ a → Member v.space y
           go (Some j) p = has-phase v y j p
           go None p =
-              absurd (term-some 0 (phase u y) _ (phase-in u y i) (ap (◌⊗◌ (rpow omegas 0)) (e ∙ ap term p) ∙ CommFacts.times-nil laws _))
+              absurd (term-some 0 (phase u y) _ (phase-in u y i) (ap (◌⊗◌ (rpow omegas 0)) (e ∙ ap term p) ∙ CommFacts.times_nil laws _))
 
   -- the new body with the weight one less is what the projection makes of the state
   pub lowered : (s' : StabilizerState) → s'.body ≡ t → s'.qubits ≡ s.qubits → s'.loss ≡ s.loss + 1 → Projected P s 0 s'

@@ -18,7 +18,7 @@ use Rattle.cyclotomic.proofs.RingFacts
 use Rattle.cyclotomic.proofs.Sums
 use Rattle.quadratic.specs.Phase.{phase, less}
 use Rattle.quadratic.specs.Strings.{Member, Under}
-use Rattle.quadratic.specs.Sums.{total, Bounded, termOf}
+use Rattle.quadratic.specs.Sums.{total, Bounded, term_of}
 use Rattle.quadratic.specs.Value.{value_at}
 use Rattle.quadratic.specs.declared.intersection.Intersection.{Intersection}
 use Rattle.quadratic.specs.declared.intersection.Intersection.TheVariants.{Empty, Space}
@@ -27,9 +27,9 @@ use Rattle.quadratic.proofs.Enumerate.{sum-strings}
 use Rattle.quadratic.proofs.Phases.{phase-in}
 use Rattle.quadratic.proofs.Same.{has-phase}
 use Rattle.quadratic.proofs.Subset.{dimension-le, inside_under}
-use Rattle.stabilizer.specs.Overlaps.{sizesNumber, phaseInside, Intersects, Roomy, depth, loweredBy, lowered}
+use Rattle.stabilizer.specs.Overlaps.{sizes_number, phase_inside, Intersects, Roomy, depth, lowered_by, lowered}
 use Rattle.stabilizer.specs.Overlaps.{IsOverlap, Orthogonal, Overlaps}
-use Rattle.stabilizer.specs.States.{amplitudeOf}
+use Rattle.stabilizer.specs.States.{amplitude_of}
 use Rattle.stabilizer.specs.Vectors.{entry, inner}
 use Rattle.stabilizer.specs.declared.state.StabilizerState.{StabilizerState}
 use Rattle.stabilizer.proofs.Symmetry.{is-swapped}
@@ -53,11 +53,11 @@ module _ (t s : StabilizerState) where
   common = (4144 - depth t) + (4144 - depth s)
 
   nothing : (x : Omega) → nil ⊗ x ≡ rpow omegas common ⊗ nil
-  nothing x = CommFacts.nil-times omega-laws.comm x ∙ sym (CommFacts.times-nil omega-laws.comm (rpow omegas common))
+  nothing x = CommFacts.nil_times omega-laws.comm x ∙ sym (CommFacts.times_nil omega-laws.comm (rpow omegas common))
 
   -- the product of entries turns by the difference of the phases
   product : (a b : Option ℕ) → ((m : ℕ) → b ≡ Some m → m < 8)
-      → bar (scaled 4144 (amplitudeOf t b)) ⊗ scaled 4144 (amplitudeOf s a) ≡ rpow omegas common ⊗ termOf omegas (less a b)
+      → bar (scaled 4144 (amplitude_of t b)) ⊗ scaled 4144 (amplitude_of s a) ≡ rpow omegas common ⊗ term_of omegas (less a b)
   unfolding common
   product (Some m) (Some k) h =
       scaled-product 4144 4144 (4144 - depth t) (4144 - depth s) (neg_ℤ (pos (depth t))) (neg_ℤ (pos (depth s)))
@@ -66,10 +66,10 @@ module _ (t s : StabilizerState) where
     where
       around : (m k : ℕ) → k < 8 → (k % 8 + (m + (8 - k)) % 8) % 8 ≡ m % 8 % 8
       around m k l = omega arith
-  product (Some m) None h = ap (λ x. bar x ⊗ scaled 4144 (amplitudeOf s (Some m))) (scaled-nought 4144)
-      ∙ ap (λ x. x ⊗ scaled 4144 (amplitudeOf s (Some m))) bar-nil ∙ nothing (scaled 4144 (amplitudeOf s (Some m)))
-  product None b h = ap (λ x. bar (scaled 4144 (amplitudeOf t b)) ⊗ x) (scaled-nought 4144)
-      ∙ CommFacts.times-comm omega-laws.comm (bar (scaled 4144 (amplitudeOf t b))) nil ∙ nothing (bar (scaled 4144 (amplitudeOf t b)))
+  product (Some m) None h = ap (λ x. bar x ⊗ scaled 4144 (amplitude_of s (Some m))) (scaled-nought 4144)
+      ∙ ap (λ x. x ⊗ scaled 4144 (amplitude_of s (Some m))) bar-nil ∙ nothing (scaled 4144 (amplitude_of s (Some m)))
+  product None b h = ap (λ x. bar (scaled 4144 (amplitude_of t b)) ⊗ x) (scaled-nought 4144)
+      ∙ CommFacts.times_comm omega-laws.comm (bar (scaled 4144 (amplitude_of t b))) nil ∙ nothing (bar (scaled 4144 (amplitude_of t b)))
 
   -- ---- all strings
 
@@ -94,7 +94,7 @@ module _ (t s : StabilizerState) where
     under : Under m.space s.qubits
     under = inside_under m.space s.body.space (λ y i. (in_both y i).0) s.qubits (s.inside, s.near)
 
-  total-is : (both : Intersection) → Intersects both t s → sum_to omegas (λ y. termOf omegas (phaseInside both y)) (2 ^ s.qubits)
+  total-is : (both : Intersection) → Intersects both t s → sum_to omegas (λ y. term_of omegas (phase_inside both y)) (2 ^ s.qubits)
       ≡ total omegas both
   total-is Empty shared = Sums.sum-nil omega-laws.comm (λ y. nil) (2 ^ s.qubits) (λ y l. refl)
   total-is (Space m) shared = sym (sum-strings omega-laws.comm m s.qubits (under m shared))
@@ -106,15 +106,15 @@ module _ (t s : StabilizerState) where
       ap (λ n. inner n (entry t) (entry s)) q
       ∙ Sums.sum_same omega-laws.comm _ _ (2 ^ s.qubits) (λ y l.
       product (phase s.body y) (phase t.body y) (phase-lt t.body y)
-      ∙ ap (λ p. rpow omegas common ⊗ termOf omegas p) (sym (shared y)))
-      ∙ Sums.sum-times omega-laws.comm (rpow omegas common) (λ y. termOf omegas (phaseInside both y)) (2 ^ s.qubits)
+      ∙ ap (λ p. rpow omegas common ⊗ term_of omegas p) (sym (shared y)))
+      ∙ Sums.sum-times omega-laws.comm (rpow omegas common) (λ y. term_of omegas (phase_inside both y)) (2 ^ s.qubits)
       ∙ ap (◌⊗◌ (rpow omegas common)) (total-is both shared)
 
 -- ---- the overlap
 
 -- two exponents of √2 added
 powers : (c p m : ℕ) → rpow omegas c ⊗ exact omegas p m ≡ exact omegas (c + p) m
-powers c p m = sym (omega-laws.comm.times-assoc (rpow omegas c) (rpow omegas p) (wpow omegas m))
+powers c p m = sym (omega-laws.comm.times_assoc (rpow omegas c) (rpow omegas p) (wpow omegas m))
     ∙ ap (λ x. x ⊗ wpow omegas m) (sym (RingFacts.rpow-add omega-laws c p))
 
 lifted : (a b p : ℕ) → a ≤ 4144 → b ≤ 4144 → pos 8288 +ℤ (pos p +ℤ neg_ℤ (pos (a + b))) ≡ pos (((4144 - a) + (4144 - b)) + p)
@@ -148,7 +148,7 @@ module _ (t s : StabilizerState) where
       kind = inl refl;
       range = λ o. absurd (omega (arith, o));
       exact = scaled-nought 8288 ∙ sym (product_is nil (ap (λ d. chosen omegas d sum.power sum.turn) z)
-          ∙ CommFacts.times-nil omega-laws.comm (rpow omegas (common t s)));
+          ∙ CommFacts.times_nil omega-laws.comm (rpow omegas (common t s)));
     }
 
     unit-is : (p : ℕ) → sum.epsilon ≡ 1 → sum.power ≡ pos p → p ≤ depth t + depth s → depth t + depth s ≤ p + 8240
@@ -168,12 +168,12 @@ module _ (t s : StabilizerState) where
     overlap-is roomy b =
         elim (ℕ_discrete sum.epsilon 0) [
           | yes z ↦
-              let to = λ (d : ℕ). loweredBy d sum.power sum.turn (depth t + depth s) in
+              let to = λ (d : ℕ). lowered_by d sum.power sum.turn (depth t + depth s) in
               subst (λ d. IsOverlap t s (to d)) (sym z) (zero_is z)
           | no ne ↦
               let one : sum.epsilon ≡ 1 = let l = sum.digit in omega (arith, l) in
               let (p, e, l, h) = sum-range both sum shared roomy b one in
-              let to = λ (d : ℕ) (k : ℤ). loweredBy d k sum.turn (depth t + depth s) in
+              let to = λ (d : ℕ) (k : ℤ). lowered_by d k sum.turn (depth t + depth s) in
               subst (λ d. IsOverlap t s (to d sum.power)) (sym one)
               (subst (λ k. IsOverlap t s (to 1 k)) (sym e) (unit-is p one e l h))
         ]
@@ -192,7 +192,7 @@ module _ (t s : StabilizerState) where
   pub overlap-unique : (x y : Triple) → IsOverlap t s x → IsOverlap t s y → x ≡ y
   overlap-unique x y i j = scaled-same 8288 x y i.kind j.kind (floor x i) (floor y j) (i.exact ∙ sym j.exact)
 
-  pub sizes-same : 0 ≡ sizesNumber t s → t.qubits ≡ s.qubits
+  pub sizes-same : 0 ≡ sizes_number t s → t.qubits ≡ s.qubits
   sizes-same e =
       elim (ℕ_discrete t.qubits s.qubits) [
         | yes q ↦ q
@@ -201,7 +201,7 @@ module _ (t s : StabilizerState) where
             absurd (omega (arith, e, z))
       ]
 
-  pub overlaps : (both : Intersection) (sum x : Scalar) → 0 ≡ sizesNumber t s → Intersects both t s → Roomy both t s
+  pub overlaps : (both : Intersection) (sum x : Scalar) → 0 ≡ sizes_number t s → Intersects both t s → Roomy both t s
       → Bounded both sum → embedded omegas (triple_of sum) ≡ total omegas both
       → triple_of x ≡ lowered (triple_of sum) (depth t + depth s) → Overlaps x t s
   overlaps both sum x n shared roomy bounds value e =

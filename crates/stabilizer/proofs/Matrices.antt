@@ -6,8 +6,8 @@ use Rattle.std.proofs.lemmas.Bool.{and_parts, leb-true, eqb-false, not-true}
 use Rattle.quadratic.specs.Bits.{bit}
 use Rattle.quadratic.proofs.Bitlaws.{digit, bit-lt, bit-xor, bit-pow-other}
 use Rattle.quadratic.proofs.Linear.{back, linear-pick, bit-linear}
-use Rattle.stabilizer.specs.Gates.{Monomial, isQubit, alone, apart, takes, gateMatrix}
-use Rattle.stabilizer.specs.Paulis.{Letter, I, X as PX, Y as PY, Z as PZ, Pauli, flip, turn, flips, turns, pauliMatrix}
+use Rattle.stabilizer.specs.Gates.{Monomial, is_qubit, alone, apart, takes, gate_matrix}
+use Rattle.stabilizer.specs.Paulis.{Letter, I, X as PX, Y as PY, Z as PZ, Pauli, flip, turn, flips, turns, pauli_matrix}
 use Rattle.stabilizer.specs.declared.gate.Gate.{Gate}
 use Rattle.stabilizer.specs.declared.gate.Gate.TheVariants.{X, Z, S, SDagger, CNot, CZ}
 
@@ -54,16 +54,16 @@ takes-inverse SDagger n j l = refl
 takes-inverse CNot n j l = refl
 takes-inverse CZ n j l = refl
 
-qubit-bounds : (n j : ℕ) → isQubit n j ≡ true → (1 ≤ j) × (j ≤ n)
+qubit-bounds : (n j : ℕ) → is_qubit n j ≡ true → (1 ≤ j) × (j ≤ n)
 qubit-bounds n j h = let (a, b) = and_parts (leb 1 j) (leb j n) h in (leb-true 1 j a, leb-true j n b)
 
 first-qubit : (n j l : ℕ) → alone n j l ≡ true → 2 ^ (n - j) < 2 ^ n
-first-qubit n j l h = let (a, b) = qubit-bounds n j (and_parts (isQubit n j) (eqb l 0) h).0 in pow-lt (omega arith)
+first-qubit n j l h = let (a, b) = qubit-bounds n j (and_parts (is_qubit n j) (eqb l 0) h).0 in pow-lt (omega arith)
 
 second-qubit : (n j l : ℕ) → apart n j l ≡ true → (2 ^ (n - l) < 2 ^ n) × (n - j ≢ n - l)
 second-qubit n j l h =
-    let (p, q) = and_parts (isQubit n j) _ h in
-    let (r, d) = and_parts (isQubit n l) (not (eqb j l)) q in
+    let (p, q) = and_parts (is_qubit n j) _ h in
+    let (r, d) = and_parts (is_qubit n l) (not (eqb j l)) q in
     let (a, b) = qubit-bounds n j p in
     let (c, e) = qubit-bounds n l r in
     let ne = eqb-false j l (not-true (eqb j l) d) in
@@ -79,7 +79,7 @@ bit-other y a i k h ne =
 pick-lt : (a m n : ℕ) → a < 2 → m < 2 ^ n → a * m < 2 ^ n
 pick-lt a m n h l = digit (λ a. a * m < 2 ^ n) (rw zero-mul (pow_pos n)) (rw one-mul l) a h
 
-pub gate-opposite : (n : ℕ) (g : Gate) (j l : ℕ) → takes g n j l ≡ true → Opposite n (gateMatrix n g j l) (gateMatrix n (inverseGate g) j l)
+pub gate-opposite : (n : ℕ) (g : Gate) (j l : ℕ) → takes g n j l ≡ true → Opposite n (gate_matrix n g j l) (gate_matrix n (inverseGate g) j l)
 gate-opposite n X j l h = flip-opposite n _ _ _ (λ y. first-qubit n j l h) (λ y. refl) (λ y. refl)
 gate-opposite n Z j l h = still-opposite n _ _ (λ y. omega arith)
 gate-opposite n S j l h = still-opposite n _ _ (λ y. omega arith)
@@ -128,7 +128,7 @@ turns-back (l ∷ ls) y f h =
     ap (λ b. (turn l b + turns ls (bit_xor y f) + (turn l (bit y k) + turns ls y)) % 8) e
     ∙ omega (arith, turn-back l (bit y k) (bit-lt y k), turns-back ls y f low-is)
 
-pub pauli-opposite : (n : ℕ) (P : Pauli) → length P.letters ≡ n → Opposite n (pauliMatrix P) (pauliMatrix P)
+pub pauli-opposite : (n : ℕ) (P : Pauli) → length P.letters ≡ n → Opposite n (pauli_matrix P) (pauli_matrix P)
 pauli-opposite n P h =
     let ls = P.letters in
     let f = flips ls in

@@ -32,11 +32,11 @@ abbrev pub laws : CommLaws omegas
 laws = omega-laws.comm
 
 pub squared : rpow omegas 2 ≡ two omegas
-squared = ap (◌⊗◌ (root omegas)) (laws.times-one (root omegas)) ∙ RingFacts.root-square omega-laws
+squared = ap (◌⊗◌ (root omegas)) (laws.times_one (root omegas)) ∙ RingFacts.root-square omega-laws
 
 pub term-turn : (k : ℕ) (a : Option ℕ) → term (turn k a) ≡ wpow omegas k ⊗ term a
 term-turn k (Some m) = RingFacts.wpow-mod omega-laws ((m + k) % 8) (k + m) (omega arith) ∙ RingFacts.wpow-add omega-laws k m
-term-turn k None = sym (CommFacts.times-nil laws _)
+term-turn k None = sym (CommFacts.times_nil laws _)
 
 -- ---- along a combination of rows the operator multiplies by a power of i
 
@@ -47,10 +47,10 @@ module _ (m : PauliMasks) (s : PhasedSpace) (a q l : ℕ) (law : Along s m.flips
       let b = dot m.signs (bit_xor y m.flips) in
       let p = phase s (bit_xor y m.flips) in
       ap (◌⊕◌ (term (phase s y))) (split m.quarters b p ∙ ap (◌⊗◌ _) (ap term (law y)) ∙ ap (◌⊗◌ _) (term-turn _ (phase s y))
-      ∙ sym (laws.times-assoc _ _ _) ∙ ap (λ x. x ⊗ term (phase s y)) (sym (RingFacts.wpow-add omega-laws _ _)
+      ∙ sym (laws.times_assoc _ _ _) ∙ ap (λ x. x ⊗ term (phase s y)) (sym (RingFacts.wpow-add omega-laws _ _)
       ∙ RingFacts.wpow-mod omega-laws (2 * m.quarters + (2 * a + 4 * dot l y)) (2 * q + 4 * dot l y)
       (eighths m.quarters a q (dot l y) e)))
-      ∙ ap (λ x. x ⊕ wpow omegas (2 * q + 4 * dot l y) ⊗ term (phase s y)) (sym (CommFacts.one-times laws _))
+      ∙ ap (λ x. x ⊕ wpow omegas (2 * q + 4 * dot l y) ⊗ term (phase s y)) (sym (CommFacts.one_times laws _))
       ∙ sym (CommFacts.plus_times laws _ _ _)
     where
       eighths : (x a q d : ℕ) → q ≡ (x % 4 + a) % 4 → (2 * x + (2 * a + 4 * d)) % 8 ≡ (2 * q + 4 * d) % 8
@@ -58,7 +58,7 @@ module _ (m : PauliMasks) (s : PhasedSpace) (a q l : ℕ) (law : Along s m.flips
 
       split : (x b : ℕ) (p : Option ℕ) → term (turn (2 * x + 4 * b) p) ≡ wpow omegas (2 * x) ⊗ term (turn (4 * b) p)
       split x b p =
-          term-turn (2 * x + 4 * b) p ∙ ap (λ z. z ⊗ term p) (RingFacts.wpow-add omega-laws (2 * x) (4 * b)) ∙ laws.times-assoc _ _ _
+          term-turn (2 * x + 4 * b) p ∙ ap (λ z. z ⊗ term p) (RingFacts.wpow-add omega-laws (2 * x) (4 * b)) ∙ laws.times_assoc _ _ _
           ∙ ap (◌⊗◌ _) (sym (term-turn (4 * b) p))
 
   -- ---- by 1 or -1: the strings with one parity stay
@@ -72,7 +72,7 @@ module _ (m : PauliMasks) (s : PhasedSpace) (a q l : ℕ) (law : Along s m.flips
         factor y
         ∙ ap (λ x. (one ⊕ x) ⊗ term (phase s y))
         (RingFacts.wpow-mod omega-laws (2 * q + 4 * dot l y) 4 (odd q b (dot l y) f small (dot-lt l y) ne))
-        ∙ ap (λ x. x ⊗ term (phase s y)) (RingFacts.one-four omega-laws) ∙ CommFacts.nil-times laws _
+        ∙ ap (λ x. x ⊗ term (phase s y)) (RingFacts.one-four omega-laws) ∙ CommFacts.nil_times laws _
       where
         odd : (q b d : ℕ) → q ≡ 2 * b → b < 2 → d < 2 → (d ≡ b → ⊥) → (2 * q + 4 * d) % 8 ≡ 4 % 8
         odd q b d f hb hd ne = omega arith
@@ -81,7 +81,7 @@ module _ (m : PauliMasks) (s : PhasedSpace) (a q l : ℕ) (law : Along s m.flips
     empty : (y : ℕ) → (Member s.space y → ⊥) → (x : Omega) → sum_at m s y ≡ x ⊗ term (phase s y)
     empty y out x =
         let z = ap term (phase-out s y out) in
-        factor y ∙ ap (◌⊗◌ _) z ∙ CommFacts.times-nil laws _ ∙ sym (ap (◌⊗◌ x) z ∙ CommFacts.times-nil laws x)
+        factor y ∙ ap (◌⊗◌ _) z ∙ CommFacts.times_nil laws _ ∙ sym (ap (◌⊗◌ x) z ∙ CommFacts.times_nil laws x)
 
     pub restricted : (o : Outcome) (s' : PhasedSpace) → Kept o s s' l b → Effected (effect_of o) m s s'
     restricted Unchanged s' h = (
@@ -90,7 +90,7 @@ module _ (m : PauliMasks) (s : PhasedSpace) (a q l : ℕ) (law : Along s m.flips
     )
     restricted Empty s' h = (
       h.0,
-      λ y. elim (in-or-out s y) [ inl i ↦ none y (h.1 y i) | inr out ↦ empty y out nil ∙ CommFacts.nil-times laws _ ],
+      λ y. elim (in-or-out s y) [ inl i ↦ none y (h.1 y i) | inr out ↦ empty y out nil ∙ CommFacts.nil_times laws _ ],
     )
     restricted Restricted s' h = record {
       root = 2;
@@ -98,7 +98,7 @@ module _ (m : PauliMasks) (s : PhasedSpace) (a q l : ℕ) (law : Along s m.flips
       sums = λ y. elim (ℕ_discrete (dot l y) b) [
         | yes e ↦ twice y e ∙ ap₂ ◌⊗◌ (sym squared) (ap term (sym (h.phases y ∙ cond-true _ (phase s y) None (eq-eqb (dot l y) b e))))
         | no ne ↦ none y ne ∙ sym (ap (◌⊗◌ _) (ap term (h.phases y ∙ cond-false _ (phase s y) None (ne_eqb (dot l y) b ne)))
-            ∙ CommFacts.times-nil laws _)
+            ∙ CommFacts.times_nil laws _)
       ];
     }
 
@@ -116,8 +116,8 @@ module _ (m : PauliMasks) (s : PhasedSpace) (a q l : ℕ) (law : Along s m.flips
         factor y
         ∙ ap (λ z. (one ⊕ wpow omegas z) ⊗ term (phase s y)) (power q d (dot l y) f)
         ∙ ap (λ z. z ⊗ term (phase s y)) (RingFacts.odd_base omega-laws δ 0 ∙ ap (λ z. root omegas ⊗ wpow omegas z) (zero-add x))
-        ∙ laws.times-assoc (root omegas) (wpow omegas x) (term (phase s y))
-        ∙ ap₂ ◌⊗◌ (sym (laws.times-one (root omegas)))
+        ∙ laws.times_assoc (root omegas) (wpow omegas x) (term (phase s y))
+        ∙ ap₂ ◌⊗◌ (sym (laws.times_one (root omegas)))
         (sym (ap term (i y ∙ turn_twice j (2 * g * dot l y) x (phase s y) (λ p. both p j (2 * g * dot l y) x (turns (dot l y)
         (dot-lt l y))))
         ∙ term-turn x (phase s y)));
@@ -136,7 +136,7 @@ pub grown : (m : PauliMasks) (s s' : PhasedSpace) (r : Bool) → m.flips < 2 ^ 4
 grown m s s' true l out h = record {
   root = 0;
   balance = let r = h.rows in omega arith;
-  sums = λ y. at y (in-or-out s y) (in-or-out s (bit_xor y m.flips)) ∙ sym (CommFacts.one-times laws _);
+  sums = λ y. at y (in-or-out s y) (in-or-out s (bit_xor y m.flips)) ∙ sym (CommFacts.one_times laws _);
 }
   where
     f : ℕ
@@ -149,7 +149,7 @@ grown m s s' true l out h = record {
         ap (λ p. term (phase s y) ⊕ term (turn (2 * m.quarters + 4 * dot m.signs (bit_xor y f)) p)) (phase-out s (bit_xor y f) k)
         ∙ laws.plus_nil _ ∙ ap term (sym (h.old y i))
     at y (inr i) (inl k) =
-        ap (λ p. term p ⊕ term (operated m s y)) (phase-out s y i) ∙ CommFacts.nil-plus laws _
+        ap (λ p. term p ⊕ term (operated m s y)) (phase-out s y i) ∙ CommFacts.nil_plus laws _
         ∙ ap term (sym (h.new (bit_xor y f) k) ∙ ap (phase s') (back y f))
     at y (inr i) (inr k) =
         ap₂ (λ p r. term p ⊕ term (turn (2 * m.quarters + 4 * dot m.signs (bit_xor y f)) r)) (phase-out s y i)

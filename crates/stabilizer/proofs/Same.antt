@@ -7,7 +7,7 @@ use Rattle.quadratic.proofs.Distinct.{pivots-same}
 use Rattle.quadratic.proofs.Extent.{phase-lt, shift-phase}
 use Rattle.quadratic.proofs.Same.{same-strings}
 use Rattle.stabilizer.specs.Overlaps.{depth}
-use Rattle.stabilizer.specs.States.{amplitudeOf, SameState}
+use Rattle.stabilizer.specs.States.{amplitude_of, SameState}
 use Rattle.stabilizer.specs.declared.state.StabilizerState.{StabilizerState}
 
 negatives : (a b : ℕ) → neg_ℤ (pos a) ≡ neg_ℤ (pos b) → a ≡ b
@@ -15,8 +15,8 @@ negatives a b e = omega (arith, ints)
 
 module _ (s t : StabilizerState) where
   -- equal amplitudes come from equal phases
-  same-option : (a b : Option ℕ) → ((m : ℕ) → a ≡ Some m → m < 8) → ((m : ℕ) → b ≡ Some m → m < 8) → amplitudeOf s a
-      ≡ amplitudeOf t b → a ≡ b
+  same-option : (a b : Option ℕ) → ((m : ℕ) → a ≡ Some m → m < 8) → ((m : ℕ) → b ≡ Some m → m < 8) → amplitude_of s a
+      ≡ amplitude_of t b → a ≡ b
   same-option (Some m) (Some n) hm hn e =
       ap (λ x. Some x) (sym (mod-eq_of_lt (hm m refl)) ∙ ap (λ x. x.2) e ∙ mod-eq_of_lt (hn n refl))
   same-option (Some m) None hm hn e = let z : ◌≡◌ {A = ℕ} 1 0 = ap (λ x. x.0) e in absurd (omega arith)
@@ -35,14 +35,14 @@ module _ (s t : StabilizerState) where
       let y = s.body.space.shift in
       let here = shift-phase s.body in
       let d : depth s ≡ depth t = negatives (depth s) (depth t)
-      (ap (λ x. x.1) (sym (ap (amplitudeOf s) here) ∙ h.amplitudes y ∙ ap (amplitudeOf t) (sym (p y) ∙ here))) in
+      (ap (λ x. x.1) (sym (ap (amplitude_of s) here) ∙ h.amplitudes y ∙ ap (amplitude_of t) (sym (p y) ∙ here))) in
       let k = dimension-same p in
       omega (arith, d, k)
 
   -- and the converse
   pub same-state : s.qubits ≡ t.qubits → s.loss ≡ t.loss → SamePhases s.body t.body → SameState s t
-  same-state q l p = record { qubits = q; amplitudes = λ y. go (phase s.body y) ∙ ap (amplitudeOf t) (p y) }
+  same-state q l p = record { qubits = q; amplitudes = λ y. go (phase s.body y) ∙ ap (amplitude_of t) (p y) }
     where
-      go : (a : Option ℕ) → amplitudeOf s a ≡ amplitudeOf t a
+      go : (a : Option ℕ) → amplitude_of s a ≡ amplitude_of t a
       go (Some m) = ap (λ d. (1, neg_ℤ (pos d), m % 8)) (ap₂ ◌+◌ l (dimension-same p))
       go None = refl

@@ -16,8 +16,8 @@ inner-swapped : (n : ℕ) (u v : ℕ → Omega) → conj ints (inner n u v) ≡ 
 unfolding omegas
 inner-swapped n u v =
     sum-to-to omega-laws.comm omega-laws.comm (conj ints) (conj-hom int_laws) (λ y. omegas.times (conj ints (u y)) (v y)) (2 ^ n)
-    ∙ Sums.sum_same omega-laws.comm _ _ (2 ^ n) (λ y l. (conj-hom int_laws).times-to (conj ints (u y)) (v y)
-    ∙ ap (λ z. omegas.times z (conj ints (v y))) (conj-conj int_laws (u y)) ∙ omega-laws.comm.times-comm (u y) (conj ints (v y)))
+    ∙ Sums.sum_same omega-laws.comm _ _ (2 ^ n) (λ y l. (conj-hom int_laws).times_to (conj ints (u y)) (v y)
+    ∙ ap (λ z. omegas.times z (conj ints (v y))) (conj-conj int_laws (u y)) ∙ omega-laws.comm.times_comm (u y) (conj ints (v y)))
 
 mirrored-kind : (x : Triple) → Kind x → Kind (mirrored x)
 mirrored-kind x (inl z) = inl (ap mirrored z)

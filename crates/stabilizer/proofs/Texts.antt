@@ -8,17 +8,17 @@ use Rattle.cyclotomic.specs.Refusals.{number_of}
 use Rattle.cyclotomic.specs.declared.refusal.Refusal.{Refusal}
 use Rattle.quadratic.specs.Bits.{bit, dot}
 use Rattle.quadratic.proofs.Bitlaws.{digit}
-use Rattle.stabilizer.specs.Masks.{sign, WithLetter, Added, MasksOf, MaskedLetters, SignedMasks, Masked, quartersOf}
-use Rattle.stabilizer.specs.Paulis.{Letter, I, X, Y, Z, Pauli, flip, turn, turns, letterOf, lettersOf, sign_of, joined, signed, pauliOf}
-use Rattle.stabilizer.specs.Paulis.{readNumber, textNumber}
+use Rattle.stabilizer.specs.Masks.{sign, WithLetter, Added, MasksOf, MaskedLetters, SignedMasks, Masked, quarters_of}
+use Rattle.stabilizer.specs.Paulis.{Letter, I, X, Y, Z, Pauli, flip, turn, turns, letter_of, letters_of, sign_of, joined, signed, pauli_of}
+use Rattle.stabilizer.specs.Paulis.{read_number, text_number}
 use Rattle.stabilizer.specs.declared.pauli.PauliMasks.{PauliMasks}
 
 -- ---- lengths
 
 -- there is a letter for every byte
-pub letters-length : (text : List ℕ) (ls : List Letter) → lettersOf text ≡ Some ls → length ls ≡ length text
+pub letters-length : (text : List ℕ) (ls : List Letter) → letters_of text ≡ Some ls → length ls ≡ length text
 letters-length [] ls e = let z : [] ≡ ls = cc in ap length (sym z)
-letters-length (b ∷ text) ls e = go (letterOf b) (lettersOf text) (letters-length text) e
+letters-length (b ∷ text) ls e = go (letter_of b) (letters_of text) (letters-length text) e
   where
     go : (o : Option Letter) (p : Option (List Letter)) → ((ks : List Letter) → p ≡ Some ks → length ks ≡ length text)
         → joined o p ≡ Some ls
@@ -28,9 +28,9 @@ letters-length (b ∷ text) ls e = go (letterOf b) (lettersOf text) (letters-len
     go None p h e = let z : ◌≡◌ {A = ℕ} 0 1 = cc in absurd (omega arith)
 
 -- a Pauli has a letter for every byte of its text but the first
-pub pauli-length : (text : List ℕ) (P : Pauli) → pauliOf text ≡ Some P → length text ≡ length P.letters + 1
+pub pauli-length : (text : List ℕ) (P : Pauli) → pauli_of text ≡ Some P → length text ≡ length P.letters + 1
 pauli-length [] P e = let z : ◌≡◌ {A = ℕ} 0 1 = cc in absurd (omega arith)
-pauli-length (b ∷ text) P e = go (sign_of b) (lettersOf text) (letters-length text) e
+pauli-length (b ∷ text) P e = go (sign_of b) (letters_of text) (letters-length text) e
   where
     letters-of : Option Pauli → List Letter
     letters-of (Some Q) = Q.letters
@@ -43,18 +43,18 @@ pauli-length (b ∷ text) P e = go (sign_of b) (lettersOf text) (letters-length 
     go None p h e = let z : ◌≡◌ {A = ℕ} 0 1 = cc in absurd (omega arith)
 
 -- a text that is not refused has n + 1 bytes
-pub text-length : (n : ℕ) (text : List ℕ) → textNumber n text ≡ 0 → length text ≡ n + 1
+pub text-length : (n : ℕ) (text : List ℕ) → text_number n text ≡ 0 → length text ≡ n + 1
 text-length n text e = go (eqb (length text) (n + 1)) refl e
   where
-    go : (b : Bool) → eqb (length text) (n + 1) ≡ b → cond b (readNumber (pauliOf text)) 11 ≡ 0 → length text ≡ n + 1
+    go : (b : Bool) → eqb (length text) (n + 1) ≡ b → cond b (read_number (pauli_of text)) 11 ≡ 0 → length text ≡ n + 1
     go true h e = eqb-true _ _ h
     go false h e = absurd (omega arith)
 
 -- a byte that is no letter spoils every text that ends with what follows it
-pub letters-none : (text : List ℕ) (i : ℕ) → lettersOf (drop i text) ≡ None → lettersOf text ≡ None
+pub letters-none : (text : List ℕ) (i : ℕ) → letters_of (drop i text) ≡ None → letters_of text ≡ None
 letters-none text zero e = e
 letters-none [] (suc i) e = e
-letters-none (b ∷ text) (suc i) e = ap (joined (letterOf b)) (letters-none text i e) ∙ go (letterOf b)
+letters-none (b ∷ text) (suc i) e = ap (joined (letter_of b)) (letters-none text i e) ∙ go (letter_of b)
   where
     go : (o : Option Letter) → joined o None ≡ None
     go (Some l) = refl
@@ -142,9 +142,9 @@ masks-more l ls m m' place e h w =
     y-lt Z = omega arith
 
 -- one byte more in front of a text
-pub letter-more : (b : ℕ) (text : List ℕ) (m m' : PauliMasks) (place : ℕ) → place ≡ length text → MaskedLetters (Ok m) (lettersOf text)
-    → Added (Ok m') (letterOf b) m place → MaskedLetters (Ok m') (lettersOf (b ∷ text))
-letter-more b text m m' place e h w = go (letterOf b) (lettersOf text) (letters-length text) h w
+pub letter-more : (b : ℕ) (text : List ℕ) (m m' : PauliMasks) (place : ℕ) → place ≡ length text → MaskedLetters (Ok m) (letters_of text)
+    → Added (Ok m') (letter_of b) m place → MaskedLetters (Ok m') (letters_of (b ∷ text))
+letter-more b text m m' place e h w = go (letter_of b) (letters_of text) (letters-length text) h w
   where
     go : (o : Option Letter) (p : Option (List Letter)) → ((ks : List Letter) → p ≡ Some ks → length ks ≡ length text)
         → MaskedLetters (Ok m) p → Added (Ok m') o m place → MaskedLetters (Ok m') (joined o p)
@@ -153,7 +153,7 @@ letter-more b text m m' place e h w = go (letterOf b) (lettersOf text) (letters-
     go None p n h w = absurd w
 
 -- no letter, and a byte that is none
-pub masks-none : (text : List ℕ) → text ≡ [] → MaskedLetters (Ok (record { flips = 0; signs = 0; quarters = 0 })) (lettersOf text)
+pub masks-none : (text : List ℕ) → text ≡ [] → MaskedLetters (Ok (record { flips = 0; signs = 0; quarters = 0 })) (letters_of text)
 unfolding dot ones
 masks-none text e = rw e (record {
   flips = refl;
@@ -164,17 +164,17 @@ masks-none text e = rw e (record {
 })
 
 pub letter-bad : (text : List ℕ) (i b : ℕ) (e : Refusal) (m : PauliMasks) (place : ℕ) → drop i text ≡ b ∷ drop (i + 1) text
-    → Added (Err e) (letterOf b) m place → MaskedLetters (Err e) (lettersOf text)
-letter-bad text i b e m place d h = go (letterOf b) refl h
+    → Added (Err e) (letter_of b) m place → MaskedLetters (Err e) (letters_of text)
+letter-bad text i b e m place d h = go (letter_of b) refl h
   where
-    go : (o : Option Letter) → letterOf b ≡ o → Added (Err e) o m place → MaskedLetters (Err e) (lettersOf text)
+    go : (o : Option Letter) → letter_of b ≡ o → Added (Err e) o m place → MaskedLetters (Err e) (letters_of text)
     go (Some l) q h = absurd h
-    go None q h = rw (letters-none text i (ap lettersOf d ∙ ap (λ o. joined o (lettersOf (drop (i + 1) text))) q)) h
+    go None q h = rw (letters-none text i (ap letters_of d ∙ ap (λ o. joined o (letters_of (drop (i + 1) text))) q)) h
 
 -- the letters behind masks
-pub masked : (m : PauliMasks) (text : List ℕ) → MaskedLetters (Ok m) (lettersOf text)
+pub masked : (m : PauliMasks) (text : List ℕ) → MaskedLetters (Ok m) (letters_of text)
     → (ls : List Letter) × MasksOf ls m × (length ls ≡ length text)
-masked m text h = go (lettersOf text) (letters-length text) h
+masked m text h = go (letters_of text) (letters-length text) h
   where
     go : (p : Option (List Letter)) → ((ks : List Letter) → p ≡ Some ks → length ks ≡ length text) → MaskedLetters (Ok m) p
         → (ls : List Letter) × MasksOf ls m × (length ls ≡ length text)
@@ -189,7 +189,7 @@ turn_signed a t q k d e h = add (4 * a) (2 * k) t (2 * q + 4 * d) (ap (λ x. x %
     add : (a b c d : ℕ) → a % 8 ≡ b % 8 → c % 8 ≡ d % 8 → (a + c) % 8 ≡ (b + d) % 8
     add a b c d p q = omega arith
 
-text-parts : (text : List ℕ) → 0 < length text → pauliOf text ≡ signed (sign_of (get_or text 0 0)) (lettersOf (drop 1 text))
+text-parts : (text : List ℕ) → 0 < length text → pauli_of text ≡ signed (sign_of (get_or text 0 0)) (letters_of (drop 1 text))
 text-parts [] h = absurd (omega arith)
 text-parts (b ∷ text) h = refl
 
@@ -200,35 +200,35 @@ module _ (n : ℕ) (text : List ℕ) (e : length text ≡ n + 1) where
   long : eqb (length text) (n + 1) ≡ true
   long = eq-eqb (length text) (n + 1) e
 
-  number_is : (o : Option Pauli) → pauliOf text ≡ o → textNumber n text ≡ readNumber o
-  number_is o q = cond-true _ (readNumber (pauliOf text)) 11 long ∙ ap readNumber q
+  number_is : (o : Option Pauli) → pauli_of text ≡ o → text_number n text ≡ read_number o
+  number_is o q = cond-true _ (read_number (pauli_of text)) 11 long ∙ ap read_number q
 
-  pub sign-bad : quartersOf (sign_of (get_or text 0 0)) ≡ None → 12 ≡ textNumber n text
+  pub sign-bad : quarters_of (sign_of (get_or text 0 0)) ≡ None → 12 ≡ text_number n text
   sign-bad q = sym (number_is None (text-parts text some ∙ go (sign_of (get_or text 0 0)) q))
     where
-      go : (o : Option ℕ) → quartersOf o ≡ None → signed o (lettersOf (drop 1 text)) ≡ None
+      go : (o : Option ℕ) → quarters_of o ≡ None → signed o (letters_of (drop 1 text)) ≡ None
       go (Some a) q = let z : ◌≡◌ {A = ℕ} 0 1 = cc in absurd (omega arith)
       go None q = refl
 
-  pub letters-bad : (r : Refusal) → MaskedLetters (Err r) (lettersOf (drop 1 text)) → number_of r ≡ textNumber n text
-  letters-bad r h = go (lettersOf (drop 1 text)) refl h
+  pub letters-bad : (r : Refusal) → MaskedLetters (Err r) (letters_of (drop 1 text)) → number_of r ≡ text_number n text
+  letters-bad r h = go (letters_of (drop 1 text)) refl h
     where
       none : (o : Option ℕ) → signed o None ≡ None
       none (Some a) = refl
       none None = refl
 
-      go : (p : Option (List Letter)) → lettersOf (drop 1 text) ≡ p → MaskedLetters (Err r) p → number_of r ≡ textNumber n text
+      go : (p : Option (List Letter)) → letters_of (drop 1 text) ≡ p → MaskedLetters (Err r) p → number_of r ≡ text_number n text
       go (Some ls) q h = absurd h
       go None q h = h ∙ sym (number_is None (text-parts text some ∙ ap (signed _) q ∙ none _))
 
   -- the masks of the letters with the quarters of the sign are those of the text
-  pub text-good : (m : PauliMasks) (t : ℕ) → quartersOf (sign_of (get_or text 0 0)) ≡ Some t → MaskedLetters (Ok m) (lettersOf (drop 1 text))
-      → (0 ≡ textNumber n text) × Masked (Ok (record { flips = m.flips; signs = m.signs; quarters = m.quarters + t })) (pauliOf text)
-  text-good m t q h = go (sign_of (get_or text 0 0)) (lettersOf (drop 1 text)) (letters-length (drop 1 text)) (text-parts text some) q h
+  pub text-good : (m : PauliMasks) (t : ℕ) → quarters_of (sign_of (get_or text 0 0)) ≡ Some t → MaskedLetters (Ok m) (letters_of (drop 1 text))
+      → (0 ≡ text_number n text) × Masked (Ok (record { flips = m.flips; signs = m.signs; quarters = m.quarters + t })) (pauli_of text)
+  text-good m t q h = go (sign_of (get_or text 0 0)) (letters_of (drop 1 text)) (letters-length (drop 1 text)) (text-parts text some) q h
     where
       go : (o : Option ℕ) (p : Option (List Letter)) → ((ks : List Letter) → p ≡ Some ks → length ks ≡ length (drop 1 text))
-          → pauliOf text ≡ signed o p → quartersOf o ≡ Some t → MaskedLetters (Ok m) p
-          → (0 ≡ textNumber n text) × Masked (Ok (record { flips = m.flips; signs = m.signs; quarters = m.quarters + t })) (pauliOf text)
+          → pauli_of text ≡ signed o p → quarters_of o ≡ Some t → MaskedLetters (Ok m) p
+          → (0 ≡ text_number n text) × Masked (Ok (record { flips = m.flips; signs = m.signs; quarters = m.quarters + t })) (pauli_of text)
       go (Some a) (Some ls) l s q h =
           let two : 2 * a ≡ t = cc in (
             sym (number_is _ s),
@@ -243,9 +243,9 @@ module _ (n : ℕ) (text : List ℕ) (e : length text ≡ n + 1) where
 
 -- ---- the Pauli behind a text that is not refused
 
-pub known : (n : ℕ) (text : List ℕ) (m : PauliMasks) → 0 ≡ textNumber n text → Masked (Ok m) (pauliOf text)
-    → (P : Pauli) × (pauliOf text ≡ Some P) × SignedMasks P m × (m.flips < 2 ^ n)
-known n text m e h = go (pauliOf text) (pauli-length text) h
+pub known : (n : ℕ) (text : List ℕ) (m : PauliMasks) → 0 ≡ text_number n text → Masked (Ok m) (pauli_of text)
+    → (P : Pauli) × (pauli_of text ≡ Some P) × SignedMasks P m × (m.flips < 2 ^ n)
+known n text m e h = go (pauli_of text) (pauli-length text) h
   where
     go : (o : Option Pauli) → ((P : Pauli) → o ≡ Some P → length text ≡ length P.letters + 1) → Masked (Ok m) o
         → (P : Pauli) × (o ≡ Some P) × SignedMasks P m × (m.flips < 2 ^ n)

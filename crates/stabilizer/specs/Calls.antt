@@ -3,20 +3,20 @@ use Rattle.std.specs.Prelude.{◌≡◌, ℕ, zero, suc, ◌+◌, ◌%◌, ◌^�
 use Rattle.cyclotomic.specs.Adjoin.{Omega, omegas}
 use Rattle.cyclotomic.specs.Ring.{two, wpow}
 use Rattle.cyclotomic.specs.Scalars.{Triple, nought}
-use Rattle.stabilizer.specs.Gates.{Monomial, gateOf, gateNumber, gateMatrix}
-use Rattle.stabilizer.specs.Paulis.{Pauli, pauliOf, pauliMatrix, textNumber}
+use Rattle.stabilizer.specs.Gates.{Monomial, gate_numbered, gate_number, gate_matrix}
+use Rattle.stabilizer.specs.Paulis.{Pauli, pauli_of, pauli_matrix, text_number}
 use Rattle.stabilizer.specs.States.{amplitude}
 use Rattle.stabilizer.specs.Vectors.{entry}
 use Rattle.stabilizer.specs.declared.gate.Gate.{Gate}
 use Rattle.stabilizer.specs.declared.state.StabilizerState.{StabilizerState}
 
 -- ω^k times a scalar
-abbrev pub rotatedBy : ℕ → ℤ → ℕ → ℕ → Triple
-rotatedBy zero p m k = nought
-rotatedBy (suc e) p m k = (1, p, (m + k) % 8)
+abbrev pub rotated_by : ℕ → ℤ → ℕ → ℕ → Triple
+rotated_by zero p m k = nought
+rotated_by (suc e) p m k = (1, p, (m + k) % 8)
 
 abbrev pub rotated : ℕ → Triple → Triple
-rotated k x = rotatedBy x.0 x.1 x.2 k
+rotated k x = rotated_by x.0 x.1 x.2 k
 
 -- the amplitudes of s' are the matrix times those of s
 abbrev pub Transformed : Monomial → StabilizerState → StabilizerState → Type 0
@@ -30,13 +30,13 @@ pub record Applied (M : Monomial) (s s' : StabilizerState) : Type 0 where
   pub amplitudes : Transformed M s s'
 
 abbrev pub AppliedBy : Option Gate → ℕ → ℕ → StabilizerState → StabilizerState → Type 0
-AppliedBy (Some g) j l s s' = Applied (gateMatrix s.qubits g j l) s s'
+AppliedBy (Some g) j l s s' = Applied (gate_matrix s.qubits g j l) s s'
 AppliedBy None j l s s' = ⊥
 
 -- a gate call on s answers the number a and leaves s'
 pub record Gated (kind j l : ℕ) (s : StabilizerState) (a : ℕ) (s' : StabilizerState) : Type 0 where
-  pub number : a ≡ gateNumber s.qubits kind j l
-  pub granted : a ≡ 0 → AppliedBy (gateOf kind) j l s s'
+  pub number : a ≡ gate_number s.qubits kind j l
+  pub granted : a ≡ 0 → AppliedBy (gate_numbered kind) j l s s'
   pub refused : 0 < a → s' ≡ s
 
 -- a matrix times a vector
@@ -45,7 +45,7 @@ applied M v y = omegas.times (wpow omegas (M.turn y)) (v (M.move y))
 
 -- v and P v together: twice the projection of v onto P's +1 space
 abbrev pub doubled : Pauli → (ℕ → Omega) → ℕ → Omega
-doubled P v y = omegas.plus (v y) (applied (pauliMatrix P) v y)
+doubled P v y = omegas.plus (v y) (applied (pauli_matrix P) v y)
 
 -- all projected amplitudes are 0; they are the old ones; they are those of s'
 abbrev pub Vanishes : Pauli → StabilizerState → Type 0
@@ -74,11 +74,11 @@ pub data Call : Type 0 where
   project : List ℕ → Call
 
 -- the number with which a call is refused for what is handed in, whatever the state of n qubits holds; else 0
-abbrev pub inputNumber : ℕ → Call → ℕ
-inputNumber n (gate kind j l) = gateNumber n kind j l
-inputNumber n (project text) = textNumber n text
+abbrev pub input_number : ℕ → Call → ℕ
+input_number n (gate kind j l) = gate_number n kind j l
+input_number n (project text) = text_number n text
 
 -- a call on s answers the number a and leaves s'
 abbrev pub Step : Call → StabilizerState → ℕ → StabilizerState → Type 0
 Step (gate kind j l) s a s' = Gated kind j l s a s'
-Step (project text) s a s' = ProjectedBy (textNumber s.qubits text) (pauliOf text) s a s'
+Step (project text) s a s' = ProjectedBy (text_number s.qubits text) (pauli_of text) s a s'

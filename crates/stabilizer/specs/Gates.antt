@@ -4,21 +4,21 @@ use Rattle.quadratic.specs.Bits.{bit}
 use Rattle.stabilizer.specs.declared.gate.Gate.{Gate}
 use Rattle.stabilizer.specs.declared.gate.Gate.TheVariants.{X, Z, S, SDagger, CNot, CZ}
 
-abbrev pub gateOf : ℕ → Option Gate
-gateOf kind =
+abbrev pub gate_numbered : ℕ → Option Gate
+gate_numbered kind =
     cond (kind == 1) (Some X) (cond (kind == 2) (Some Z) (cond (kind == 3) (Some S)
     (cond (kind == 4) (Some SDagger) (cond (kind == 5) (Some CNot) (cond (kind == 6) (Some CZ) None)))))
 
-abbrev pub isQubit : ℕ → ℕ → Bool
-isQubit n j = nat_le 1 j && nat_le j n
+abbrev pub is_qubit : ℕ → ℕ → Bool
+is_qubit n j = nat_le 1 j && nat_le j n
 
 -- one qubit, and 0 in the place of the second
 abbrev pub alone : ℕ → ℕ → ℕ → Bool
-alone n j l = isQubit n j && l == 0
+alone n j l = is_qubit n j && l == 0
 
 -- two different qubits
 abbrev pub apart : ℕ → ℕ → ℕ → Bool
-apart n j l = isQubit n j && (isQubit n l && not (j == l))
+apart n j l = is_qubit n j && (is_qubit n l && not (j == l))
 
 abbrev pub takes : Gate → ℕ → ℕ → ℕ → Bool
 takes X n j l = alone n j l
@@ -29,12 +29,12 @@ takes CNot n j l = apart n j l
 takes CZ n j l = apart n j l
 
 -- another kind is refused with 9, and then other qubits with 10
-abbrev pub operandsNumber : Option Gate → ℕ → ℕ → ℕ → ℕ
-operandsNumber (Some g) n j l = cond (takes g n j l) 0 10
-operandsNumber None n j l = 9
+abbrev pub operands_number : Option Gate → ℕ → ℕ → ℕ → ℕ
+operands_number (Some g) n j l = cond (takes g n j l) 0 10
+operands_number None n j l = 9
 
-abbrev pub gateNumber : ℕ → ℕ → ℕ → ℕ → ℕ
-gateNumber n kind j l = operandsNumber (gateOf kind) n j l
+abbrev pub gate_number : ℕ → ℕ → ℕ → ℕ → ℕ
+gate_number n kind j l = operands_number (gate_numbered kind) n j l
 
 -- A matrix with one entry in each row: in row y it has ω^(turn y), in the column `move y`.
 pub record Monomial : Type 0 where
@@ -60,8 +60,8 @@ flipping CNot a p q = a * q
 flipping CZ a p q = 0
 
 -- the matrix of a gate on qubits j and l of n: qubit j is bit n - j of a string
-abbrev pub gateMatrix : ℕ → Gate → ℕ → ℕ → Monomial
-gateMatrix n g j l = record {
+abbrev pub gate_matrix : ℕ → Gate → ℕ → ℕ → Monomial
+gate_matrix n g j l = record {
   turn = λ y. turning g (bit y (n - j)) (bit y (n - l));
   move = λ y. bit_xor y (flipping g (bit y (n - j)) (2 ^ (n - j)) (2 ^ (n - l)));
 }

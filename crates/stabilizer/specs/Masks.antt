@@ -39,9 +39,9 @@ MaskedLetters (Ok m) None = ⊥
 MaskedLetters (Err e) (Some ls) = ⊥
 MaskedLetters (Err e) None = number_of e ≡ 12
 
-abbrev pub quartersOf : Option ℕ → Option ℕ
-quartersOf (Some e) = Some (2 * e)
-quartersOf None = None
+abbrev pub quarters_of : Option ℕ → Option ℕ
+quarters_of (Some e) = Some (2 * e)
+quarters_of None = None
 
 -- the same with the sign
 pub record SignedMasks (P : Pauli) (m : PauliMasks) : Type 0 where

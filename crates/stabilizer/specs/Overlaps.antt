@@ -13,16 +13,16 @@ use Rattle.stabilizer.specs.Vectors.{entry, inner}
 use Rattle.stabilizer.specs.declared.state.StabilizerState.{StabilizerState}
 
 -- states of different sizes are refused with 23
-abbrev pub sizesNumber : StabilizerState → StabilizerState → ℕ
-sizesNumber t s = cond (t.qubits == s.qubits) 0 23
+abbrev pub sizes_number : StabilizerState → StabilizerState → ℕ
+sizes_number t s = cond (t.qubits == s.qubits) 0 23
 
-abbrev pub phaseInside : Intersection → ℕ → Option ℕ
-phaseInside Empty y = None
-phaseInside (Space m) y = phase m y
+abbrev pub phase_inside : Intersection → ℕ → Option ℕ
+phase_inside Empty y = None
+phase_inside (Space m) y = phase m y
 
 -- the strings in both spaces, each with the phase of s less that of t
 abbrev pub Intersects : Intersection → StabilizerState → StabilizerState → Type 0
-Intersects x t s = (y : ℕ) → phaseInside x y ≡ less (phase s.body y) (phase t.body y)
+Intersects x t s = (y : ℕ) → phase_inside x y ≡ less (phase s.body y) (phase t.body y)
 
 -- among strings of n bits, the dimension is at least the sum of both less n
 abbrev pub Roomy : Intersection → StabilizerState → StabilizerState → Type 0
@@ -34,12 +34,12 @@ abbrev pub depth : StabilizerState → ℕ
 depth s = s.loss + count_ones s.body.space.pivots
 
 -- a scalar with its power lowered; 0 stays
-abbrev pub loweredBy : ℕ → ℤ → ℕ → ℕ → Triple
-loweredBy zero p m k = nought
-loweredBy (suc e) p m k = (1, p +ℤ neg_ℤ (pos k), m)
+abbrev pub lowered_by : ℕ → ℤ → ℕ → ℕ → Triple
+lowered_by zero p m k = nought
+lowered_by (suc e) p m k = (1, p +ℤ neg_ℤ (pos k), m)
 
 abbrev pub lowered : Triple → ℕ → Triple
-lowered x k = loweredBy x.0 x.1 x.2 k
+lowered x k = lowered_by x.0 x.1 x.2 k
 
 -- the overlap of t and s, as a triple: the sum over all strings of the conjugate of t's amplitude times that of s
 pub record IsOverlap (t s : StabilizerState) (x : Triple) : Type 0 where

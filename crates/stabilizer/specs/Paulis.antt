@@ -35,8 +35,8 @@ turns [] x = 0
 turns (l ∷ ls) x = turn l (bit x (length ls)) + turns ls x
 
 -- P takes the string x to x with bits flipped, times a power of ω: row y has its entry in the column of y flipped back
-abbrev pub pauliMatrix : Pauli → Monomial
-pauliMatrix P = record {
+abbrev pub pauli_matrix : Pauli → Monomial
+pauli_matrix P = record {
   turn = λ y. 4 * P.minus + turns P.letters (bit_xor y (flips P.letters));
   move = λ y. bit_xor y (flips P.letters);
 }
@@ -46,31 +46,31 @@ pauliMatrix P = record {
 abbrev pub sign_of : ℕ → Option ℕ
 sign_of b = cond (b == 43) (Some 0) (cond (b == 45) (Some 1) None)
 
-abbrev pub letterOf : ℕ → Option Letter
-letterOf b = cond (b == 73) (Some I) (cond (b == 88) (Some X) (cond (b == 89) (Some Y) (cond (b == 90) (Some Z) None)))
+abbrev pub letter_of : ℕ → Option Letter
+letter_of b = cond (b == 73) (Some I) (cond (b == 88) (Some X) (cond (b == 89) (Some Y) (cond (b == 90) (Some Z) None)))
 
 abbrev pub joined : Option Letter → Option (List Letter) → Option (List Letter)
 joined (Some l) (Some ls) = Some (l ∷ ls)
 joined (Some l) None = None
 joined None ls = None
 
-abbrev pub lettersOf : List ℕ → Option (List Letter)
-lettersOf [] = Some []
-lettersOf (b ∷ text) = joined (letterOf b) (lettersOf text)
+abbrev pub letters_of : List ℕ → Option (List Letter)
+letters_of [] = Some []
+letters_of (b ∷ text) = joined (letter_of b) (letters_of text)
 
 abbrev pub signed : Option ℕ → Option (List Letter) → Option Pauli
 signed (Some e) (Some ls) = Some (record { minus = e; letters = ls })
 signed (Some e) None = None
 signed None ls = None
 
-abbrev pub pauliOf : List ℕ → Option Pauli
-pauliOf [] = None
-pauliOf (b ∷ text) = signed (sign_of b) (lettersOf text)
+abbrev pub pauli_of : List ℕ → Option Pauli
+pauli_of [] = None
+pauli_of (b ∷ text) = signed (sign_of b) (letters_of text)
 
 -- a text of another length is refused with 11, and then one that is no Pauli with 12
-abbrev pub readNumber : Option Pauli → ℕ
-readNumber (Some P) = 0
-readNumber None = 12
+abbrev pub read_number : Option Pauli → ℕ
+read_number (Some P) = 0
+read_number None = 12
 
-abbrev pub textNumber : ℕ → List ℕ → ℕ
-textNumber n text = cond (length text == n + 1) (readNumber (pauliOf text)) 11
+abbrev pub text_number : ℕ → List ℕ → ℕ
+text_number n text = cond (length text == n + 1) (read_number (pauli_of text)) 11

@@ -5,7 +5,7 @@ use Rattle.cyclotomic.specs.Ring.{two, rpow}
 use Rattle.quadratic.specs.Bits.{dot}
 use Rattle.quadratic.specs.Moves.{turn}
 use Rattle.quadratic.specs.Phase.{phase}
-use Rattle.quadratic.specs.Sums.{termOf}
+use Rattle.quadratic.specs.Sums.{term_of}
 use Rattle.quadratic.specs.declared.affine.Outcome.{Outcome}
 use Rattle.quadratic.specs.declared.affine.Outcome.TheVariants.{Unchanged as Whole, Empty, Restricted}
 use Rattle.quadratic.specs.declared.phased.PhasedSpace.{PhasedSpace}
@@ -15,7 +15,7 @@ use Rattle.stabilizer.specs.declared.pauli.PauliMasks.{PauliMasks}
 
 -- ω to the power of a phase, and 0 where there is none
 abbrev pub term : Option ℕ → Omega
-term = termOf omegas
+term = term_of omegas
 
 -- the phase that the operator gives to y: it comes from y with the bits of the mask turned over
 abbrev pub operated : PauliMasks → PhasedSpace → ℕ → Option ℕ

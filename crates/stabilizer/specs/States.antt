@@ -9,8 +9,8 @@ use Rattle.quadratic.specs.declared.phased.PhasedSpace.{PhasedSpace}
 use Rattle.stabilizer.specs.declared.state.StabilizerState.{StabilizerState}
 
 -- a number of qubits outside 1 to 48 is refused with 2
-abbrev pub openNumber : ℕ → ℕ
-openNumber n = cond (nat_le 1 n && nat_le n 48) 0 2
+abbrev pub open_number : ℕ → ℕ
+open_number n = cond (nat_le 1 n && nat_le n 48) 0 2
 
 -- n qubits, weight, dimension, shift and phase 0
 pub record Opened (s : StabilizerState) (n : ℕ) : Type 0 where
@@ -31,16 +31,16 @@ Assembled (Some s) n l b = (s.qubits ≡ n) × (s.loss ≡ l) × (s.body ≡ b)
 Assembled None n l b = Sound n l b → ⊥
 
 -- a string number of 2^n or more is refused with 14
-abbrev pub amplitudeNumber : StabilizerState → ℕ → ℕ
-amplitudeNumber s y = cond (nat_lt y (2 ^ s.qubits)) 0 14
+abbrev pub amplitude_number : StabilizerState → ℕ → ℕ
+amplitude_number s y = cond (nat_lt y (2 ^ s.qubits)) 0 14
 
 -- 2^((e - k)/2) ω^m for a string with the phase m, and 0 for one that is not in the space
-abbrev pub amplitudeOf : StabilizerState → Option ℕ → Triple
-amplitudeOf s (Some m) = unit (neg_ℤ (pos (s.loss + count_ones s.body.space.pivots))) m
-amplitudeOf s None = nought
+abbrev pub amplitude_of : StabilizerState → Option ℕ → Triple
+amplitude_of s (Some m) = unit (neg_ℤ (pos (s.loss + count_ones s.body.space.pivots))) m
+amplitude_of s None = nought
 
 abbrev pub amplitude : StabilizerState → ℕ → Triple
-amplitude s y = amplitudeOf s (phase s.body y)
+amplitude s y = amplitude_of s (phase s.body y)
 
 abbrev pub AmplitudeAt : Result Scalar Refusal → StabilizerState → ℕ → Type 0
 AmplitudeAt (Ok x) s y = triple_of x ≡ amplitude s y

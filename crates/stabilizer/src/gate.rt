@@ -1,5 +1,5 @@
 ghost use Rattle.std.specs.Prelude.{◌≡◌, ◌^◌, ◌<◌, ◌≤◌};
-ghost use Rattle.stabilizer.specs.Gates.{gateOf, takes as takenBy};
+ghost use Rattle.stabilizer.specs.Gates.{gate_numbered, takes as taken_by};
 ghost use Rattle.stabilizer.specs.Moved.{Placed, Moved};
 
 use quadratic::phased::PhasedSpace;
@@ -18,7 +18,7 @@ pub enum Gate {
 impl Gate {
     // The gate with a number, if there is one.
     pub fn numbered(kind: u64) -> Option<Gate>
-        ensures { result ≡ gateOf kind }
+        ensures { result ≡ gate_numbered kind }
     {
         match kind {
             1 => Some(Gate::X),
@@ -33,7 +33,7 @@ impl Gate {
 
     // Whether the gate acts on these qubits of so many; a gate of one qubit has 0 for the second.
     pub fn takes(self, qubits: u64, j: u64, l: u64) -> bool
-        ensures { result ≡ takenBy self qubits j l }
+        ensures { result ≡ taken_by self qubits j l }
     {
         if j < 1 || j > qubits {
             return false;

@@ -1,6 +1,6 @@
 ghost use Rattle.std.specs.Prelude.{◌≡◌, ◌<◌};
 ghost use Rattle.cyclotomic.specs.Refusals.{answer_of};
-ghost use Rattle.stabilizer.specs.Overlaps.{sizesNumber, Intersects, Roomy, Overlapping};
+ghost use Rattle.stabilizer.specs.Overlaps.{sizes_number, Intersects, Roomy, Overlapping};
 
 use crate::state::StabilizerState;
 use cyclotomic::refusal::Refusal;
@@ -14,7 +14,7 @@ pub fn intersect(
     t: &StabilizerState,
     s: &StabilizerState,
 ) -> Result<(), Refusal>
-    ensures number { answer_of result ≡ sizesNumber t.now s.now }
+    ensures number { answer_of result ≡ sizes_number t.now s.now }
     ensures granted { answer_of result ≡ 0 → Intersects out.new t.now s.now }
     ensures roomy { answer_of result ≡ 0 → Roomy out.new t.now s.now }
     ensures refused { 0 < answer_of result → out.new ≡ out.old }
@@ -35,7 +35,7 @@ pub fn overlap_into(
     t: &StabilizerState,
     s: &StabilizerState,
 ) -> Result<Scalar, Refusal>
-    ensures number { answer_of result ≡ sizesNumber t.now s.now }
+    ensures number { answer_of result ≡ sizes_number t.now s.now }
     ensures value { Overlapping result t.now s.now }
     ensures granted { answer_of result ≡ 0 → Intersects out.new t.now s.now }
     ensures refused { 0 < answer_of result → out.new ≡ out.old }
@@ -50,7 +50,7 @@ pub fn overlap_into(
 
 // The overlap of t and s: the sum over all strings of the conjugate of t's amplitude times that of s.
 pub fn overlap(t: &StabilizerState, s: &StabilizerState) -> Result<Scalar, Refusal>
-    ensures number { answer_of result ≡ sizesNumber t.now s.now }
+    ensures number { answer_of result ≡ sizes_number t.now s.now }
     ensures value { Overlapping result t.now s.now }
 {
     let mut both = Intersection::Empty;

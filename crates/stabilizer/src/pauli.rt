@@ -4,9 +4,9 @@ ghost use Rattle.quadratic.specs.Moves.{turn};
 ghost use Rattle.quadratic.specs.Phase.{phase};
 ghost use Rattle.stabilizer.specs.declared.pauli.Effect.TheVariants.{Changed};
 ghost use Rattle.cyclotomic.specs.Refusals.{answer_of};
-ghost use Rattle.stabilizer.specs.Masks.{Added, MaskedLetters, Masked, quartersOf};
+ghost use Rattle.stabilizer.specs.Masks.{Added, MaskedLetters, Masked, quarters_of};
 ghost use Rattle.stabilizer.specs.Projections.{Effected, effect_of};
-ghost use Rattle.stabilizer.specs.Paulis.{sign_of, letterOf, lettersOf, pauliOf, textNumber};
+ghost use Rattle.stabilizer.specs.Paulis.{sign_of, letter_of, letters_of, pauli_of, text_number};
 
 use cyclotomic::refusal::Refusal;
 use quadratic::affine::Outcome;
@@ -33,8 +33,8 @@ impl PauliMasks {
     // A text with a sign and a letter for each qubit.
     pub(crate) fn read(qubits: u64, text: &[u8]) -> Result<PauliMasks, Refusal>
         requires { qubits ≤ 48 }
-        ensures number { answer_of result ≡ textNumber qubits text.now }
-        ensures masks { Masked result (pauliOf text.now) }
+        ensures number { answer_of result ≡ text_number qubits text.now }
+        ensures masks { Masked result (pauli_of text.now) }
     {
         if text.len() as u64 != qubits + 1 {
             return Err(Refusal::TextLength);
@@ -53,7 +53,7 @@ impl PauliMasks {
     // The letters, from the last to the first.
     fn read_letters(letters: &[u8]) -> Result<PauliMasks, Refusal>
         requires { length letters.now ≤ 48 }
-        ensures { MaskedLetters result (lettersOf letters.now) }
+        ensures { MaskedLetters result (letters_of letters.now) }
     {
         let mut masks = PauliMasks {
             flips: 0,
@@ -74,7 +74,7 @@ impl PauliMasks {
         requires flips { self.flips < 2 ^ place }
         requires signs { self.signs < 2 ^ place }
         requires quarters { self.quarters ≤ place }
-        ensures { Added result (letterOf letter) self place }
+        ensures { Added result (letter_of letter) self place }
     {
         let here: u64 = 1 << place;
         let (flip, sign) = match letter as char {
@@ -136,7 +136,7 @@ fn turned(body: &mut PhasedSpace, eighths: u8, quarters: u8, mask: u64) -> Effec
 
 // The quarter turns that a sign stands for.
 fn sign_quarters(sign: u8) -> Option<u8>
-    ensures read { result ≡ quartersOf (sign_of sign) }
+    ensures read { result ≡ quarters_of (sign_of sign) }
     ensures small { IfSome result (λ q. q ≤ 2) }
 {
     match sign as char {

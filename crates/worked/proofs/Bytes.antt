@@ -1,15 +1,15 @@
 -- The runs of bytes of the examples, field by field.
 use Rattle.std.proofs.Common.{◌≡◌, ℕ, zero, suc, ◌<◌, List, [], ◌∷◌, get_or, None, refl, lit<}
 use lib.Count.{count_leading_zeros}
-use Rattle.archive.specs.Bits.{bit_at, bitsAt}
+use Rattle.archive.specs.Bits.{bit_at, bits_from}
 use Rattle.archive.specs.First.{first}
-use Rattle.archive.specs.Layout.{parts_at, stateEnd, aloneVerdicts, aloneFault}
+use Rattle.archive.specs.Layout.{parts_at, end_of_state, alone_verdicts, alone_fault}
 use Rattle.worked.specs.Worked.{level, turned, apart}
 use Rattle.worked.proofs.OneQubit.{Bits}
 
 -- a run of bytes for a state of one qubit
 pub record Run (b : List ℕ) (e Q d : ℕ) : Type 0 where
-  pub sound : aloneFault b ≡ None
+  pub sound : alone_fault b ≡ None
   pub bits : Bits b e Q d
   pub bytes : (i : ℕ) → get_or b i 0 < 256
 
@@ -21,7 +21,7 @@ four_bytes a b c d la lb lc ld (suc (suc (suc zero))) = ld
 four_bytes a b c d la lb lc ld (suc (suc (suc (suc i)))) = lit< tt
 
 pub level-run : Run level 1 0 0
-unfolding bitsAt bit_at parts_at stateEnd aloneVerdicts aloneFault first count_leading_zeros
+unfolding bits_from bit_at parts_at end_of_state alone_verdicts alone_fault first count_leading_zeros
 level-run = record {
   sound = refl;
   bits = record { size = refl; rank = refl; weight = refl; phase = refl; row = refl; shift = refl; linear = refl };
@@ -29,7 +29,7 @@ level-run = record {
 }
 
 pub turned-run : Run turned 1 0 1
-unfolding bitsAt bit_at parts_at stateEnd aloneVerdicts aloneFault first count_leading_zeros
+unfolding bits_from bit_at parts_at end_of_state alone_verdicts alone_fault first count_leading_zeros
 turned-run = record {
   sound = refl;
   bits = record { size = refl; rank = refl; weight = refl; phase = refl; row = refl; shift = refl; linear = refl };
@@ -37,7 +37,7 @@ turned-run = record {
 }
 
 pub apart-run : Run apart 2 7 1
-unfolding bitsAt bit_at parts_at stateEnd aloneVerdicts aloneFault first count_leading_zeros
+unfolding bits_from bit_at parts_at end_of_state alone_verdicts alone_fault first count_leading_zeros
 apart-run = record {
   sound = refl;
   bits = record { size = refl; rank = refl; weight = refl; phase = refl; row = refl; shift = refl; linear = refl };

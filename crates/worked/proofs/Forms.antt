@@ -8,9 +8,9 @@ use Rattle.cyclotomic.specs.Scalars.{Triple, triple_of, Kind, embedded, chosen}
 use Rattle.cyclotomic.specs.Sum.{sum_to}
 use Rattle.cyclotomic.specs.declared.scalar.Scalar.{Scalar}
 use Rattle.cyclotomic.proofs.Exact.{scalar-kind, scaled-same}
-use Rattle.quadratic.specs.Fields.{linearAt, couplingAt, found, foundBoth, pivotOf}
+use Rattle.quadratic.specs.Fields.{coefficient_at, coupling_between, found, found_both, row_pivot}
 use Rattle.quadratic.specs.Numbering.{spread}
-use Rattle.quadratic.specs.Sums.{Bounded, total, termAt}
+use Rattle.quadratic.specs.Sums.{Bounded, total, term_at}
 use Rattle.quadratic.specs.Value.{value_at}
 use Rattle.quadratic.specs.declared.intersection.Intersection.{Intersection}
 use Rattle.quadratic.specs.declared.intersection.Intersection.TheVariants.{Empty, Space}
@@ -33,12 +33,12 @@ module _ {R : Type 0} (o : Ops R) (s : PhasedSpace) where
   value-first : at 0 ≡ s.form.phase
   value-first = ap (value_at s.form) (spread-zero 48 s.space.pivots) ∙ value-zero s.form
 
-  value_row : (j p : ℕ) → pivotOf s (suc j) ≡ Some p → at (2 ^ j) ≡ (s.form.phase + linearAt s p) % 8
+  value_row : (j p : ℕ) → row_pivot s (suc j) ≡ Some p → at (2 ^ j) ≡ (s.form.phase + coefficient_at s p) % 8
   value_row j p e = ap (value_at s.form) (spread_row 48 s.space.pivots j p e)
       ∙ value-one s.form p (place-below 48 s.space.pivots (suc j) p e)
 
-  value-rows : (p q : ℕ) → pivotOf s 1 ≡ Some p → pivotOf s 2 ≡ Some q
-      → at 3 ≡ (s.form.phase + linearAt s q + (linearAt s p + couplingAt s p q)) % 8
+  value-rows : (p q : ℕ) → row_pivot s 1 ≡ Some p → row_pivot s 2 ≡ Some q
+      → at 3 ≡ (s.form.phase + coefficient_at s q + (coefficient_at s p + coupling_between s p q)) % 8
   value-rows p q e f =
       let h = spread-both 48 s.space.pivots p q e f in
       ap (value_at s.form) h.0 ∙ value-two s.form p q (place-below 48 s.space.pivots 1 p e) h.1
@@ -54,25 +54,25 @@ module _ {R : Type 0} (o : Ops R) where
   pub total-point : (x : Intersection) (Q : ℕ) → NoVariable x Q → total o x ≡ o.plus o.nil (wpow o Q)
   total-point Empty Q h = none h.dimension
   total-point (Space s) Q h =
-      ap (λ d. sum_to o (termAt o s) (2 ^ d)) (some h.dimension)
+      ap (λ d. sum_to o (term_at o s) (2 ^ d)) (some h.dimension)
       ∙ ap (λ v. o.plus o.nil (wpow o v)) (value-first o s ∙ some h.phase)
 
   pub total-one : (x : Intersection) (Q D : ℕ) → OneVariable x Q D → total o x ≡ two-terms o Q ((Q + D) % 8)
   total-one Empty Q D h = none h.dimension
   total-one (Space s) Q D h =
-      let (p, e, l) = found_at (pivotOf s 1) (linearAt s) D h.linear in
-      ap (λ d. sum_to o (termAt o s) (2 ^ d)) (some h.dimension)
+      let (p, e, l) = found_at (row_pivot s 1) (coefficient_at s) D h.linear in
+      ap (λ d. sum_to o (term_at o s) (2 ^ d)) (some h.dimension)
       ∙ ap₂ (two-terms o) (value-first o s ∙ some h.phase) (value_row o s 0 p e ∙ ap₂ (λ a b. (a + b) % 8) (some h.phase) l)
 
   pub total-two : (x : Intersection) (Q D E : ℕ) → Coupled x Q D E
       → total o x ≡ four-terms o Q ((Q + D) % 8) ((Q + E) % 8) ((Q + E + (D + 4)) % 8)
   total-two Empty Q D E h = none h.dimension
   total-two (Space s) Q D E h =
-      let (p, e, l) = found_at (pivotOf s 1) (linearAt s) D h.first in
-      let (q, f, m) = found_at (pivotOf s 2) (linearAt s) E h.second in
-      let k = some (ap₂ (λ a b. foundBoth a b (couplingAt s)) (sym e) (sym f) ∙ h.coupling) in
+      let (p, e, l) = found_at (row_pivot s 1) (coefficient_at s) D h.first in
+      let (q, f, m) = found_at (row_pivot s 2) (coefficient_at s) E h.second in
+      let k = some (ap₂ (λ a b. found_both a b (coupling_between s)) (sym e) (sym f) ∙ h.coupling) in
       let phase = some h.phase in
-      ap (λ d. sum_to o (termAt o s) (2 ^ d)) (some h.dimension)
+      ap (λ d. sum_to o (term_at o s) (2 ^ d)) (some h.dimension)
       ∙ ap₂ (λ a b. four-terms o a b (at o s 2) (at o s 3)) (value-first o s ∙ phase)
       (value_row o s 0 p e ∙ ap₂ (λ a b. (a + b) % 8) phase l)
       ∙ ap₂ (four-terms o Q ((Q + D) % 8)) (value_row o s 1 q f ∙ ap₂ (λ a b. (a + b) % 8) phase m)

@@ -5,7 +5,7 @@ use lib.Bits.{bit_and, bit_xor}
 use lib.Count.{count_leading_zeros}
 use Rattle.quadratic.specs.Bits.{bit}
 use Rattle.quadratic.specs.Echelon.{row}
-use Rattle.quadratic.specs.Fields.{linearAt}
+use Rattle.quadratic.specs.Fields.{coefficient_at}
 use Rattle.quadratic.specs.Phase.{phase}
 use Rattle.quadratic.specs.Strings.{Member}
 use Rattle.quadratic.specs.Value.{value_at}
@@ -16,7 +16,7 @@ use Rattle.quadratic.proofs.Extent.{shift-phase, phases-below}
 use Rattle.quadratic.proofs.Laws.{facts, comb-pow}
 use Rattle.quadratic.proofs.Phases.{phase-in}
 use Rattle.stabilizer.specs.declared.state.StabilizerState.{StabilizerState}
-use Rattle.archive.specs.Bits.{bitsAt}
+use Rattle.archive.specs.Bits.{bits_from}
 use Rattle.archive.specs.Held.{Holds, Spans, Weighs}
 use Rattle.archive.specs.Layout.{size_at, rank_at, row_at, lead}
 use Rattle.archive.proofs.Coefficients.{value-zero, value-one}
@@ -27,7 +27,7 @@ pub record Both (s : PhasedSpace) (Q D : ℕ) : Type 0 where
   pub row : row s.space.rows 0 ≡ 1
   pub shift : s.space.shift ≡ 0
   pub phase : s.form.phase ≡ Q
-  pub linear : linearAt s 0 ≡ D
+  pub linear : coefficient_at s 0 ≡ D
 
 -- the phases at the two strings, and none past them
 pub record Phases (f : ℕ → Option ℕ) (a b : ℕ) : Type 0 where
@@ -58,11 +58,11 @@ both-phases s Q D h = record {
 pub record Bits (b : List ℕ) (e Q d : ℕ) : Type 0 where
   pub size : size_at b 0 ≡ 1
   pub rank : rank_at b 0 ≡ 1
-  pub weight : bitsAt b 12 13 ≡ e
-  pub phase : bitsAt b 25 3 ≡ Q
-  pub row : bitsAt b 28 1 ≡ 1
-  pub shift : bitsAt b 29 1 ≡ 0
-  pub linear : bitsAt b 30 2 ≡ d
+  pub weight : bits_from b 12 13 ≡ e
+  pub phase : bits_from b 25 3 ≡ Q
+  pub row : bits_from b 28 1 ≡ 1
+  pub shift : bits_from b 29 1 ≡ 0
+  pub linear : bits_from b 30 2 ≡ d
 
 pub held_both : (b : List ℕ) (e Q d : ℕ) (s : StabilizerState) → Bits b e Q d → Holds b 0 s → Both s.body Q (2 * d)
 unfolding count_leading_zeros
@@ -78,7 +78,7 @@ held_both b e Q d s f h =
       row = own;
       shift = v.shift ∙ f.shift;
       phase = w.phase ∙ f.phase;
-      linear = ap (linearAt s.body) (sym at) ∙ w.linear 0 (omega arith) ∙ ap (λ x. 2 * x) f.linear;
+      linear = ap (coefficient_at s.body) (sym at) ∙ w.linear 0 (omega arith) ∙ ap (λ x. 2 * x) f.linear;
     }
   where
     bits : (s : PhasedSpace) → Spans b 0 1 1 s → row s.space.rows 0 ≡ 1 → lead (row_at b 0 1 0) ≡ 0 → (i : ℕ) → Dec (i ≡ 0)

@@ -59,12 +59,12 @@ vanished P s v a s' (halved t z f c q l) = absurd (z v)
 
 pub first_alone : (k m a : ℕ) (x y : Omega) → x ≡ exact omegas k m → y ≡ nil → x ⊕ wpow omegas a ⊗ y ≡ exact omegas k m
 first_alone k m a x y e z = ap₂ (λ x y. x ⊕ wpow omegas a ⊗ y) e z
-    ∙ ap (◌⊕◌ (exact omegas k m)) (CommFacts.times-nil omega-laws.comm (wpow omegas a)) ∙ omega-laws.comm.plus_nil (exact omegas k m)
+    ∙ ap (◌⊕◌ (exact omegas k m)) (CommFacts.times_nil omega-laws.comm (wpow omegas a)) ∙ omega-laws.comm.plus_nil (exact omegas k m)
 
 pub second-alone : (k a : ℕ) (x y : Omega) → x ≡ nil → y ≡ exact omegas k 0 → x ⊕ wpow omegas a ⊗ y ≡ exact omegas k a
 second-alone k a x y z e =
-    ap₂ (λ x y. x ⊕ wpow omegas a ⊗ y) z (e ∙ omega-laws.comm.times-one (rpow omegas k))
-    ∙ CommFacts.nil-plus omega-laws.comm (wpow omegas a ⊗ rpow omegas k) ∙ omega-laws.comm.times-comm (wpow omegas a) (rpow omegas k)
+    ap₂ (λ x y. x ⊕ wpow omegas a ⊗ y) z (e ∙ omega-laws.comm.times_one (rpow omegas k))
+    ∙ CommFacts.nil_plus omega-laws.comm (wpow omegas a ⊗ rpow omegas k) ∙ omega-laws.comm.times_comm (wpow omegas a) (rpow omegas k)
 
 -- 1 + ω^a is √2 ω^c
 pub both-entries : (k a c : ℕ) (x y : Omega) → one ⊕ wpow omegas a ≡ root omegas ⊗ wpow omegas c → x ≡ exact omegas k 0
@@ -72,10 +72,10 @@ pub both-entries : (k a c : ℕ) (x y : Omega) → one ⊕ wpow omegas a ≡ roo
 both-entries k a c x y h ex ey =
     let r = rpow omegas k in
     let comm = omega-laws.comm in
-    ap₂ (λ x y. x ⊕ wpow omegas a ⊗ y) (ex ∙ comm.times-one r ∙ sym (CommFacts.one-times comm r)) (ey ∙ comm.times-one r)
+    ap₂ (λ x y. x ⊕ wpow omegas a ⊗ y) (ex ∙ comm.times_one r ∙ sym (CommFacts.one_times comm r)) (ey ∙ comm.times_one r)
     ∙ sym (CommFacts.plus_times comm one (wpow omegas a) r) ∙ ap (λ z. z ⊗ r) h
-    ∙ comm.times-assoc (root omegas) (wpow omegas c) r ∙ ap (◌⊗◌ (root omegas)) (comm.times-comm (wpow omegas c) r)
-    ∙ sym (comm.times-assoc (root omegas) r (wpow omegas c))
+    ∙ comm.times_assoc (root omegas) (wpow omegas c) r ∙ ap (◌⊗◌ (root omegas)) (comm.times_comm (wpow omegas c) r)
+    ∙ sym (comm.times_assoc (root omegas) r (wpow omegas c))
 
 -- ---- the opened state
 

@@ -5,7 +5,7 @@ use lib.Bits.{bit_and}
 use lib.Count.{ones, ones-le, count_leading_zeros}
 use Rattle.quadratic.specs.Bits.{bit}
 use Rattle.quadratic.specs.Echelon.{row}
-use Rattle.quadratic.specs.Fields.{linearAt}
+use Rattle.quadratic.specs.Fields.{coefficient_at}
 use Rattle.quadratic.specs.Phase.{phase}
 use Rattle.quadratic.specs.Value.{value_at}
 use Rattle.quadratic.specs.declared.phased.PhasedSpace.{PhasedSpace}
@@ -13,8 +13,8 @@ use Rattle.quadratic.proofs.Bitlaws.{bit-pow-other}
 use Rattle.quadratic.proofs.Phases.{phase-in}
 use Rattle.quadratic.proofs.Same.{has-phase}
 use Rattle.stabilizer.specs.declared.state.StabilizerState.{StabilizerState}
-use Rattle.archive.specs.Bits.{bitsAt}
-use Rattle.archive.specs.Held.{Holds, Spans, Weighs, linearPlace}
+use Rattle.archive.specs.Bits.{bits_from}
+use Rattle.archive.specs.Held.{Holds, Spans, Weighs, linear_place}
 use Rattle.archive.specs.Layout.{rank_at, row_at, lead}
 use Rattle.archive.proofs.Coefficients.{value-zero, value-one, coef-low}
 use Rattle.worked.proofs.OneQubit.{Both, Bits}
@@ -39,8 +39,8 @@ phases-both s Q D v q o zeroth first only =
       shift = clear s.body.space.shift (omega (arith, s.near, size))
           (ap (bit_and s.body.space.shift) (sym pivots) ∙ s.body.space.clean);
       phase = Q₀;
-      linear = only (linearAt s.body 0) (coef-low s.body.form 0)
-          (ap (λ x. (x + linearAt s.body 0) % 8) (sym Q₀) ∙ sym (value-one s.body.form 0 (omega arith))
+      linear = only (coefficient_at s.body 0) (coef-low s.body.form 0)
+          (ap (λ x. (x + coefficient_at s.body 0) % 8) (sym Q₀) ∙ sym (value-one s.body.form 0 (omega arith))
           ∙ value-at s.body 1 v first);
     }
   where
@@ -96,6 +96,6 @@ both-held b e Q d s f q l o h =
     rows a z at = ap (λ a. row s.body.space.rows (lead (row_at b 0 1 a))) z ∙ ap (row s.body.space.rows) at ∙ h.row
         ∙ sym (ap (row_at b 0 1) z ∙ f.row)
 
-    linears : (a : ℕ) → a ≡ 0 → lead (row_at b 0 1 0) ≡ 0 → linearAt s.body (lead (row_at b 0 1 a)) ≡ 2 * bitsAt b (linearPlace 0 1 1 a) 2
-    linears a z at = ap (λ a. linearAt s.body (lead (row_at b 0 1 a))) z ∙ ap (linearAt s.body) at ∙ h.linear
-        ∙ sym (ap (λ a. 2 * bitsAt b (linearPlace 0 1 1 a) 2) z ∙ ap (λ x. 2 * x) f.linear)
+    linears : (a : ℕ) → a ≡ 0 → lead (row_at b 0 1 0) ≡ 0 → coefficient_at s.body (lead (row_at b 0 1 a)) ≡ 2 * bits_from b (linear_place 0 1 1 a) 2
+    linears a z at = ap (λ a. coefficient_at s.body (lead (row_at b 0 1 a))) z ∙ ap (coefficient_at s.body) at ∙ h.linear
+        ∙ sym (ap (λ a. 2 * bits_from b (linear_place 0 1 1 a) 2) z ∙ ap (λ x. 2 * x) f.linear)

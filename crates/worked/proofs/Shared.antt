@@ -12,14 +12,14 @@ use Rattle.cyclotomic.proofs.Ints.{omega-laws}
 use Rattle.cyclotomic.proofs.RingFacts
 use Rattle.cyclotomic.proofs.Scalars.{exact-not-nil}
 use Rattle.quadratic.specs.Phase.{phase, less}
-use Rattle.quadratic.specs.Sums.{total, termOf}
+use Rattle.quadratic.specs.Sums.{total, term_of}
 use Rattle.quadratic.specs.declared.intersection.Intersection.{Intersection}
 use Rattle.quadratic.specs.declared.intersection.Intersection.TheVariants.{Empty, Space}
 use Rattle.quadratic.proofs.Enumerate.{sum-strings}
 use Rattle.quadratic.proofs.Extent.{space-below}
-use Rattle.stabilizer.specs.Overlaps.{Intersects, Overlaps, phaseInside, depth, lowered}
+use Rattle.stabilizer.specs.Overlaps.{Intersects, Overlaps, phase_inside, depth, lowered}
 use Rattle.stabilizer.specs.declared.state.StabilizerState.{StabilizerState}
-use Rattle.archive.specs.Bits.{bit_at, bitsAt}
+use Rattle.archive.specs.Bits.{bit_at, bits_from}
 use Rattle.archive.specs.Writes.{RunOf}
 use Rattle.worked.specs.Worked.{level, turned}
 use Rattle.worked.proofs.Bytes.{level-run, turned-run}
@@ -34,12 +34,12 @@ pub turned-phases : (s : StabilizerState) → RunOf s turned → Phases (phase s
 turned-phases s r = both-phases s.body 0 2 (held_both turned 1 0 1 s turned-run.bits r.holds)
 
 -- a sum over the two strings of one qubit
-pub total-phases : {R : Type 0} {o : Ops R} → CommLaws o → (x : Intersection) (a b : ℕ) → Phases (phaseInside x) a b
+pub total-phases : {R : Type 0} {o : Ops R} → CommLaws o → (x : Intersection) (a b : ℕ) → Phases (phase_inside x) a b
     → total o x ≡ two-terms o a b
 total-phases laws Empty a b h = none h.zeroth
 total-phases {R} {o} laws (Space m) a b h =
     sum-strings laws m 1 (space-below m 1 (λ y v e. below y v e (dec_lt y 2)))
-    ∙ ap₂ (λ p q. o.plus (o.plus o.nil (termOf o p)) (termOf o q)) h.zeroth h.first
+    ∙ ap₂ (λ p q. o.plus (o.plus o.nil (term_of o p)) (term_of o q)) h.zeroth h.first
   where
     below : (y v : ℕ) → phase m y ≡ Some v → Dec (y < 2) → y < 2
     below y v e (yes l) = l
@@ -47,12 +47,12 @@ total-phases {R} {o} laws (Space m) a b h =
 
 -- 1 + i and 1 - i
 pub plus-quarter : omegas.plus omegas.one (wpow omegas 2) ≡ omegas.times (root omegas) (wpow omegas 1)
-plus-quarter = RingFacts.one-two omega-laws ∙ ap (omegas.times (root omegas)) (sym (omega-laws.comm.times-one omegas.w))
+plus-quarter = RingFacts.one-two omega-laws ∙ ap (omegas.times (root omegas)) (sym (omega-laws.comm.times_one omegas.w))
 
 terms-root : (a m : ℕ) → omegas.plus omegas.one (wpow omegas a) ≡ omegas.times (root omegas) (wpow omegas m)
     → two-terms omegas 0 a ≡ exact omegas 1 m
-terms-root a m h = ap (λ z. omegas.plus z (wpow omegas a)) (CommFacts.nil-plus omega-laws.comm omegas.one) ∙ h
-    ∙ ap (λ z. omegas.times z (wpow omegas m)) (sym (omega-laws.comm.times-one (root omegas)))
+terms-root a m h = ap (λ z. omegas.plus z (wpow omegas a)) (CommFacts.nil_plus omega-laws.comm omegas.one) ∙ h
+    ∙ ap (λ z. omegas.times z (wpow omegas m)) (sym (omega-laws.comm.times_one (root omegas)))
 
 pub plus-terms : two-terms omegas 0 2 ≡ exact omegas 1 1
 plus-terms = terms-root 2 1 plus-quarter
@@ -61,16 +61,16 @@ pub minus-terms : two-terms omegas 0 6 ≡ exact omegas 1 7
 minus-terms = terms-root 6 7 (RingFacts.one-six omega-laws)
 
 pub level-depth : (s : StabilizerState) → RunOf s level → depth s ≡ 2
-unfolding bitsAt bit_at
+unfolding bits_from bit_at
 level-depth s r = ap₂ ◌+◌ r.holds.weight r.holds.spans.count
 
 pub turned-depth : (s : StabilizerState) → RunOf s turned → depth s ≡ 2
-unfolding bitsAt bit_at
+unfolding bits_from bit_at
 turned-depth s r = ap₂ ◌+◌ r.holds.weight r.holds.spans.count
 
 -- what two states with the phases 0 and a, 0 and b have in common
 module _ (t s : StabilizerState) (a b : ℕ) (p : Phases (phase t.body) 0 a) (q : Phases (phase s.body) 0 b) where
-  pub shared-phases : (x : Intersection) → Intersects x t s → Phases (phaseInside x) 0 ((b + (8 - a)) % 8)
+  pub shared-phases : (x : Intersection) → Intersects x t s → Phases (phase_inside x) 0 ((b + (8 - a)) % 8)
   shared-phases x h = record {
     zeroth = h 0 ∙ ap₂ less q.zeroth p.zeroth;
     first = h 1 ∙ ap₂ less q.first p.first;

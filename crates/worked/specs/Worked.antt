@@ -3,7 +3,7 @@ use Rattle.std.specs.Prelude.{◌≡◌, ℕ, List, [], ◌∷◌, pos, negsuc, 
 use Rattle.cyclotomic.specs.Modular.{Quad, quads, seventeen}
 use Rattle.cyclotomic.specs.Scalars.{Triple, triple_of, nought}
 use Rattle.cyclotomic.specs.declared.scalar.Scalar.{Scalar}
-use Rattle.quadratic.specs.Meets.{dimensionIn, phaseIn, linearIn, couplingIn}
+use Rattle.quadratic.specs.Meets.{dimension_in, phase_in, linear_in, coupling_in}
 use Rattle.quadratic.specs.Sums.{IsSum, total}
 use Rattle.quadratic.specs.declared.intersection.Intersection.{Intersection}
 use Rattle.stabilizer.specs.Calls.{Step, project}
@@ -14,20 +14,20 @@ use Rattle.archive.specs.Writes.{RunOf}
 
 -- forms of no variable, of one, and of two coupled ones: the phase and the linear coefficients
 pub record NoVariable (x : Intersection) (Q : ℕ) : Type 0 where
-  pub dimension : dimensionIn x ≡ Some 0
-  pub phase : phaseIn x ≡ Some Q
+  pub dimension : dimension_in x ≡ Some 0
+  pub phase : phase_in x ≡ Some Q
 
 pub record OneVariable (x : Intersection) (Q D : ℕ) : Type 0 where
-  pub dimension : dimensionIn x ≡ Some 1
-  pub phase : phaseIn x ≡ Some Q
-  pub linear : linearIn x 1 ≡ Some D
+  pub dimension : dimension_in x ≡ Some 1
+  pub phase : phase_in x ≡ Some Q
+  pub linear : linear_in x 1 ≡ Some D
 
 pub record Coupled (x : Intersection) (Q D E : ℕ) : Type 0 where
-  pub dimension : dimensionIn x ≡ Some 2
-  pub phase : phaseIn x ≡ Some Q
-  pub first : linearIn x 1 ≡ Some D
-  pub second : linearIn x 2 ≡ Some E
-  pub coupling : couplingIn x 1 2 ≡ Some 4
+  pub dimension : dimension_in x ≡ Some 2
+  pub phase : phase_in x ≡ Some Q
+  pub first : linear_in x 1 ≡ Some D
+  pub second : linear_in x 2 ≡ Some E
+  pub coupling : coupling_in x 1 2 ≡ Some 4
 
 -- every intersection of a kind has the exponential sum (ε, p, m)
 abbrev pub Sums : (Intersection → Type 0) → Triple → Type 0
@@ -45,14 +45,14 @@ abbrev pub apart : List ℕ
 apart = 4 ∷ 16 ∷ 1 ∷ 121 ∷ []
 
 -- the texts +X, +Y and -Z
-abbrev pub plus-x : List ℕ
-plus-x = 43 ∷ 88 ∷ []
+abbrev pub plus_x : List ℕ
+plus_x = 43 ∷ 88 ∷ []
 
-abbrev pub plus-y : List ℕ
-plus-y = 43 ∷ 89 ∷ []
+abbrev pub plus_y : List ℕ
+plus_y = 43 ∷ 89 ∷ []
 
-abbrev pub minus-z : List ℕ
-minus-z = 45 ∷ 90 ∷ []
+abbrev pub minus_z : List ℕ
+minus_z = 45 ∷ 90 ∷ []
 
 -- a projection of s on a text answers 0 and leaves a state with the bytes b
 abbrev pub Leaves : StabilizerState → List ℕ → List ℕ → Type 0
@@ -68,14 +68,14 @@ words_of z = (z.re.re.0, z.im.re.0, z.re.im.0, z.im.im.0)
 -- the examples; y is the overlap in one of them, and z the overlap in the other order
 pub record WorkedExamples (y z : Triple) : Type 0 where
   -- ω⁵
-  pub one-string : Sums (λ x. NoVariable x 5) (1, pos 0, 5)
+  pub one_string : Sums (λ x. NoVariable x 5) (1, pos 0, 5)
   -- 1 + i and 1 - 1
-  pub quarter-turn : Sums (λ x. OneVariable x 0 2) (1, pos 1, 1)
-  pub half-turn : Sums (λ x. OneVariable x 0 4) nought
+  pub quarter_turn : Sums (λ x. OneVariable x 0 2) (1, pos 1, 1)
+  pub half_turn : Sums (λ x. OneVariable x 0 4) nought
   -- 1 + 1 + 1 - 1, 1 + i + i + 1 and 1 + i - i - 1
   pub coupled : Sums (λ x. Coupled x 0 0 0) (1, pos 2, 0)
-  pub coupled-turns : Sums (λ x. Coupled x 0 2 2) (1, pos 3, 1)
-  pub opposite-turns : Sums (λ x. Coupled x 0 2 6) nought
+  pub coupled_turns : Sums (λ x. Coupled x 0 2 2) (1, pos 3, 1)
+  pub opposite_turns : Sums (λ x. Coupled x 0 2 6) nought
   -- (1 + i)/4, and (1 - i)/4 in the other order, of the sum 1 + i, which is 5 modulo 17 and (1, 0, 1, 0) modulo 2^64
   pub answer : y ≡ (1, negsuc 2, 1)
   pub conjugate : z ≡ (1, negsuc 2, 7)
@@ -85,7 +85,7 @@ pub record WorkedExamples (y z : Triple) : Type 0 where
   pub residue : Between level turned (λ x. (total seventeen x).0 ≡ 5)
   pub words : Between level turned (λ x. words_of (total quads x) ≡ (1, 0, 1, 0))
   -- projections of the opened state, with amplitude 1 at 0, and of the state with the amplitude 1/2 at both strings
-  pub onto-x : (s : StabilizerState) → Opened s 1 → Leaves s plus-x level
-  pub onto-y : (s : StabilizerState) → Opened s 1 → Leaves s plus-y turned
-  pub onto-minus-z : (s : StabilizerState) → Opened s 1 → (a : ℕ) (s' : StabilizerState) → Step (project minus-z) s a s' → a ≡ 21
-  pub level-onto-y : (s : StabilizerState) → RunOf s level → Leaves s plus-y apart
+  pub onto_x : (s : StabilizerState) → Opened s 1 → Leaves s plus_x level
+  pub onto_y : (s : StabilizerState) → Opened s 1 → Leaves s plus_y turned
+  pub onto_minus_z : (s : StabilizerState) → Opened s 1 → (a : ℕ) (s' : StabilizerState) → Step (project minus_z) s a s' → a ≡ 21
+  pub level_onto_y : (s : StabilizerState) → RunOf s level → Leaves s plus_y apart

@@ -7,8 +7,8 @@ returns c = record {
   value = record {
     first = c.read.new.state;
     second = c.read-2.new.state;
-    holds-first = c.in_ok-read.ensures.state;
-    holds-second = c.in_ok-read-2.ensures.state;
+    holds_first = c.in_ok-read.ensures.state;
+    holds_second = c.in_ok-read-2.ensures.state;
     value = c.in_ok-overlap.ensures.value;
   };
 }

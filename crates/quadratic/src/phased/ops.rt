@@ -1,11 +1,11 @@
 ghost use Rattle.std.specs.Prelude.{◌≡◌, ℕ, ◌+◌, ◌*◌, ◌%◌, ◌^◌, ◌<◌, ◌≤◌, T, bit_and, bit_xor, count_ones};
 ghost use Rattle.quadratic.specs.Bits.{bit as digit};
 ghost use Rattle.quadratic.specs.Building.{Begun, RowAdded, Reshifted, LinearAdded, Coupled};
-ghost use Rattle.quadratic.specs.Fields.{row_of, linearOf, couplingOf, linearAt, couplingAt};
+ghost use Rattle.quadratic.specs.Fields.{row_of, linear_of, coupling_of, coefficient_at, coupling_between};
 ghost use Rattle.quadratic.specs.Numbering.{spread};
-ghost use Rattle.quadratic.specs.Phase.{phase as phaseOf, Meets, Wide, SamePhases};
+ghost use Rattle.quadratic.specs.Phase.{phase as phase_of, Meets, Wide, SamePhases};
 ghost use Rattle.quadratic.specs.Strings.{Member};
-ghost use Rattle.quadratic.specs.Echelon.{row as rowOfTable};
+ghost use Rattle.quadratic.specs.Echelon.{row as table_row};
 ghost use Rattle.quadratic.specs.Value.{value_at, Sees};
 
 use super::PhasedSpace;
@@ -107,21 +107,21 @@ impl PhasedSpace {
 
     // The row with its pivot at a position; 0 where there is none.
     pub fn row_at(&self, p: usize) -> u64
-        ensures { result ≡ rowOfTable self.now.space.rows p }
+        ensures { result ≡ table_row self.now.space.rows p }
     {
         self.space.row_at(p)
     }
 
     // The linear coefficient of the row with the pivot p; 0 where there is none.
     pub fn linear_at(&self, p: usize) -> u64
-        ensures { result ≡ linearAt self.now p }
+        ensures { result ≡ coefficient_at self.now p }
     {
         self.form.linear(p)
     }
 
     // The coupling of the rows with the pivots p and q; 0 where there are none.
     pub fn coupling_at(&self, p: usize, q: usize) -> u64
-        ensures { result ≡ couplingAt self.now p q }
+        ensures { result ≡ coupling_between self.now p q }
     {
         self.form.coupling(p, q)
     }
@@ -138,7 +138,7 @@ impl PhasedSpace {
 
     // The linear coefficient of row a.
     pub fn linear(&self, a: u64) -> Option<u64>
-        ensures { result ≡ linearOf self.now a }
+        ensures { result ≡ linear_of self.now a }
     {
         match nth(self.space.pivots(), a) {
             Some(p) => Some(self.linear_at(p)),
@@ -148,7 +148,7 @@ impl PhasedSpace {
 
     // The coupling of rows a and b.
     pub fn coupling(&self, a: u64, b: u64) -> Option<u64>
-        ensures { result ≡ couplingOf self.now a b }
+        ensures { result ≡ coupling_of self.now a b }
     {
         match nth(self.space.pivots(), a) {
             Some(p) => match nth(self.space.pivots(), b) {
@@ -161,7 +161,7 @@ impl PhasedSpace {
 
     // The phase at the string y, if y is in the space.
     pub fn phase_at(&self, y: u64) -> Option<u8>
-        ensures { result ≡ phaseOf self.now y }
+        ensures { result ≡ phase_of self.now y }
     {
         if self.space.contains(y) {
             Some(self.form.value(y))

@@ -1,7 +1,7 @@
 ghost use Rattle.std.specs.Prelude.{◌≡◌};
 ghost use Rattle.cyclotomic.specs.Refusals.{answer_of};
 ghost use Rattle.stabilizer.specs.Calls.{Gated, ProjectedBy};
-ghost use Rattle.stabilizer.specs.Paulis.{pauliOf, textNumber};
+ghost use Rattle.stabilizer.specs.Paulis.{pauli_of, text_number};
 
 use super::StabilizerState;
 use crate::gate::Gate;
@@ -39,7 +39,7 @@ impl StabilizerState {
     // Projects onto the states that a Pauli operator leaves as they are. The operator is given by a sign, + or -, and one of the
     // letters I, X, Y and Z for each qubit.
     pub fn project(&mut self, text: &[u8]) -> Result<(), Refusal>
-        ensures { ProjectedBy (textNumber self.old.qubits text.now) (pauliOf text.now) self.old (answer_of result) self.new }
+        ensures { ProjectedBy (text_number self.old.qubits text.now) (pauli_of text.now) self.old (answer_of result) self.new }
     {
         let operator = PauliMasks::read(self.qubits, text)?;
         let mut body = self.body;

@@ -1,8 +1,8 @@
 ghost use Rattle.std.specs.Prelude.{◌≡◌, ℕ, ◌+◌, ◌*◌, ◌%◌, ◌^◌, ◌<◌, ◌≤◌, T, ℤ, pos, neg_ℤ, count_ones};
 ghost use Rattle.cyclotomic.specs.Refusals.{answer_of};
-ghost use Rattle.quadratic.specs.Fields.{row_of, linearOf, couplingOf};
+ghost use Rattle.quadratic.specs.Fields.{row_of, linear_of, coupling_of};
 ghost use Rattle.stabilizer.specs.Overlaps.{depth as depth_of};
-ghost use Rattle.stabilizer.specs.States.{Opened, openNumber, Assembled, amplitudeNumber, AmplitudeAt, SameState};
+ghost use Rattle.stabilizer.specs.States.{Opened, open_number, Assembled, amplitude_number, AmplitudeAt, SameState};
 
 use super::StabilizerState;
 use cyclotomic::refusal::Refusal;
@@ -23,7 +23,7 @@ impl StabilizerState {
 
     // The state of n qubits with amplitude 1 at the string of zeros.
     pub fn open(&mut self, n: u64) -> Result<(), Refusal>
-        ensures number { answer_of result ≡ openNumber n }
+        ensures number { answer_of result ≡ open_number n }
         ensures granted { answer_of result ≡ 0 → Opened self.new n }
         ensures refused { 0 < answer_of result → self.new ≡ self.old }
     {
@@ -107,14 +107,14 @@ impl StabilizerState {
 
     // The linear coefficient of row a.
     pub fn linear(&self, a: u64) -> Option<u64>
-        ensures { result ≡ linearOf self.now.body a }
+        ensures { result ≡ linear_of self.now.body a }
     {
         self.body.linear(a)
     }
 
     // The coupling of rows a and b.
     pub fn coupling(&self, a: u64, b: u64) -> Option<u64>
-        ensures { result ≡ couplingOf self.now.body a b }
+        ensures { result ≡ coupling_of self.now.body a b }
     {
         self.body.coupling(a, b)
     }
@@ -128,7 +128,7 @@ impl StabilizerState {
 
     // The amplitude at a string, given as a number with qubit 1 as its highest bit.
     pub fn amplitude(&self, string: u64) -> Result<Scalar, Refusal>
-        ensures number { answer_of result ≡ amplitudeNumber self.now string }
+        ensures number { answer_of result ≡ amplitude_number self.now string }
         ensures value { AmplitudeAt result self.now string }
     {
         if string >> self.qubits != 0 {

@@ -1,10 +1,10 @@
 use Rattle.std.proofs.Common.{◌≡◌, ℕ, ◌+◌, ◌-◌, ◌*◌, ◌/◌, ◌%◌, ◌^◌, ◌≤◌, List, get_or, sym, arith}
-use Rattle.archive.specs.Bits.{bitsAt}
+use Rattle.archive.specs.Bits.{bits_from}
 use Rattle.archive.proofs.Laws.{bits_none, bits-step, step_fits}
 use Rattle.archive.proofs.bits.bits_at.Goals as goal
 
-turn : (b : List ℕ) (p w s v x : ℕ) → (p + w) % 8 + s ≤ 8 → v ≡ bitsAt b p w → x ≡ get_or b ((p + w) / 8) 0 / 2 ^ (8 - (p + w) % 8 - s)
-    → v * ((1 * 2 ^ s) % 2 ^ 64) + x % ((1 * 2 ^ s) % 2 ^ 64) ≡ bitsAt b p (w + s)
+turn : (b : List ℕ) (p w s v x : ℕ) → (p + w) % 8 + s ≤ 8 → v ≡ bits_from b p w → x ≡ get_or b ((p + w) / 8) 0 / 2 ^ (8 - (p + w) % 8 - s)
+    → v * ((1 * 2 ^ s) % 2 ^ 64) + x % ((1 * 2 ^ s) % 2 ^ 64) ≡ bits_from b p (w + s)
 turn b p w s v x h ev ex = rw (ev, ex) (sym (bits-step b p w s h (omega arith)))
 
 pub loop-done-init : goal.loop-done-init

@@ -1,7 +1,7 @@
 use Rattle.std.proofs.Common.{◌≡◌, ℕ, suc, ◌+◌, ◌-◌, ◌<◌, ap, ◌∙◌, subst, ap₂, arith}
 use Rattle.quadratic.specs.Bits.{bit}
-use Rattle.archive.specs.Bits.{bitsAt}
-use Rattle.archive.specs.Held.{couplingPlace}
+use Rattle.archive.specs.Bits.{bits_from}
+use Rattle.archive.specs.Held.{place_of_coupling}
 use Rattle.archive.specs.Reading.{RowUpTo}
 use Rattle.archive.proofs.Laws.{bits_below}
 use Rattle.archive.proofs.Leads.{order}
@@ -10,7 +10,7 @@ use Rattle.archive.proofs.Weighing.{row_more}
 use Rattle.archive.proofs.build.build_coupling_row.Goals as goal
 
 -- the place of the coupling with row c, from that with the next row
-shifted : (p n k a c first : ℕ) → first ≡ couplingPlace p n k a (suc a) → a < c → first + (c - a - 1) ≡ couplingPlace p n k a c
+shifted : (p n k a c first : ℕ) → first ≡ place_of_coupling p n k a (suc a) → a < c → first + (c - a - 1) ≡ place_of_coupling p n k a c
 shifted p n k a c first e l = let z : suc a - suc a ≡ 0 = omega arith in omega arith
 
 pub overflow_add-first : goal.overflow_add-first
@@ -64,7 +64,7 @@ loop-c-preserved c =
     let e = shifted c.args.start c.args.n c.args.k a i _ c.coupling_place-first.ensures (omega arith) in
     let low = bits_below b (c.coupling_place-first.result + (i - a - 1)) 1 in
     row_more _ _ _ _ c.requires.sound a i (omega arith) c.loop-c-test.true _ _ _ _ _ _ (t a c.requires.row) (t i c.loop-c-test.true)
-    (omega (arith, c.bits_at.ensures)) (c.bits_at.ensures ∙ ap (λ q. bitsAt b q 1) e) c.loop-c.invariant c.add_coupling.ensures
+    (omega (arith, c.bits_at.ensures)) (c.bits_at.ensures ∙ ap (λ q. bits_from b q 1) e) c.loop-c.invariant c.add_coupling.ensures
 
 pub returns : goal.returns
 returns c =

@@ -1,6 +1,6 @@
 use Rattle.std.proofs.Common.{◌≡◌, ℕ, ◌*◌, ◌/◌, ◌<◌, ◌≤◌, length, get_or, take, ap, ◌∙◌, subst, ap₂, arith, rules}
 use lib.Count.{ones, ones-le}
-use Rattle.archive.specs.Layout.{bitCount, padded}
+use Rattle.archive.specs.Layout.{bits_before_fill, padded}
 use Rattle.archive.specs.Writes.{Falling, RunOf}
 use Rattle.archive.proofs.Alike.{telling}
 use Rattle.archive.proofs.Laws.{bytes_take}
@@ -53,7 +53,7 @@ returns c =
     let en = c.qubits-n.ensures in
     let ek = c.set_bits-k.ensures.count.0 ∙ ap ones em in
     let fall = subst (λ m. Falling m k c.set_bits-k.result.0) em c.set_bits-k.ensures.falling in
-    let size : 8 * m ≡ padded (bitCount n k) = omega (arith, c.bit_count.ensures.0, c.div_ceil-length.ensures) in
+    let size : 8 * m ≡ padded (bits_before_fill n k) = omega (arith, c.bit_count.ensures.0, c.div_ceil-length.ensures) in
     let old : (i : ℕ) → get_or c.args.buffer.now i 0 < 256 = λ i. search rules in
     let new : (i : ℕ) → get_or b i 0 < 256 = λ i. omega (arith, c.type_inv.buffer i) in
     let room : m ≤ length b = omega (arith, c.if-buffer-length.false) in
@@ -65,7 +65,7 @@ returns c =
     let run : RunOf s (take m b) = record { sound = put.0; holds = put.1; bytes = bytes_take b m new } in
     record {
       length = (
-        eighth m _ (size ∙ ap₂ (λ x y. padded (bitCount x y)) en ek),
+        eighth m _ (size ∙ ap₂ (λ x y. padded (bits_before_fill x y)) en ek),
         c.if-buffer-length.false,
         omega (arith, bits.1.1, div, s.some),
         omega (arith, bits.1.0, div),

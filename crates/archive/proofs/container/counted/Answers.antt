@@ -4,26 +4,26 @@ use Rattle.std.proofs.lemmas.Bool.{lt-ltb, le-ltb, cond-true, cond-false}
 use Rattle.archive.specs.declared.fault.ArchiveFault.{ArchiveFault}
 use Rattle.archive.specs.declared.fault.ArchiveFault.TheVariants.{LeftOver}
 use Rattle.archive.specs.First.{or_else}
-use Rattle.archive.specs.Archives.{count_of, placeAfter, statesFault, archiveFault, restVerdict}
+use Rattle.archive.specs.Archives.{count_of, place_after, states_fault, archive_fault, rest_verdict}
 use Rattle.archive.proofs.States.{first-place, no-count, high-count, states-rest}
 use Rattle.archive.proofs.container.counted.Goals as goal
 
 -- what follows from the states' verdict, by the reader's numbers
 module _ (b : List ℕ) (n : ℕ) (en : n ≡ count_of b) (l : 0 < length b) (h : n ≤ 100) where
-  over-states : (o : Option ArchiveFault) → statesFault b 0 n ≡ o → archiveFault b ≡ or_else o (restVerdict b (placeAfter b n))
+  over-states : (o : Option ArchiveFault) → states_fault b 0 n ≡ o → archive_fault b ≡ or_else o (rest_verdict b (place_after b n))
   over-states o e =
       states-rest b l (omega arith)
-      ∙ ap (λ m. or_else (statesFault b 0 m) (restVerdict b (placeAfter b m))) (sym en)
-      ∙ ap (λ t. or_else t (restVerdict b (placeAfter b n))) e
+      ∙ ap (λ m. or_else (states_fault b 0 m) (rest_verdict b (place_after b m))) (sym en)
+      ∙ ap (λ t. or_else t (rest_verdict b (place_after b n))) e
 
-  module _ (q : ℕ) (e : q ≡ placeAfter b (0 + n)) where
-    rest_of : restVerdict b (placeAfter b n) ≡ restVerdict b q
-    rest_of = ap (restVerdict b) (sym (e ∙ ap (placeAfter b) (zero-add n)))
+  module _ (q : ℕ) (e : q ≡ place_after b (0 + n)) where
+    rest_of : rest_verdict b (place_after b n) ≡ rest_verdict b q
+    rest_of = ap (rest_verdict b) (sym (e ∙ ap (place_after b) (zero-add n)))
 
-    surplus : q < 8 * length b → restVerdict b (placeAfter b n) ≡ Some (LeftOver q)
+    surplus : q < 8 * length b → rest_verdict b (place_after b n) ≡ Some (LeftOver q)
     surplus g = rest_of ∙ cond-true _ _ _ (lt-ltb q _ g)
 
-    complete : 8 * length b ≤ q → restVerdict b (placeAfter b n) ≡ None
+    complete : 8 * length b ≤ q → rest_verdict b (place_after b n) ≡ None
     complete g = rest_of ∙ cond-false _ _ _ (le-ltb q _ g)
 
 pub returns-in_default : goal.returns-in_default

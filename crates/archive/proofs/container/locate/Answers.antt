@@ -1,7 +1,7 @@
 use Rattle.std.proofs.Common.{◌≡◌, ◌+◌, ◌-◌, sym, ap, ◌∙◌, zero-add, arith}
 use Rattle.std.proofs.lemmas.Result.{err_from_is_err_and}
 use Rattle.std.proofs.lemmas.Bool.Decides.{nat_tests}
-use Rattle.archive.specs.Archives.{placeAfter}
+use Rattle.archive.specs.Archives.{place_after}
 use Rattle.archive.proofs.First.{none-some}
 use Rattle.archive.proofs.States.{first-place, whole-bytes, place-rises, state-good}
 use Rattle.archive.proofs.Denials.{by-fault, by_number, by-none, states-good}
@@ -41,9 +41,9 @@ returns c =
     let h = c.in_ok-count.ensures in
     let u = c.in_ok-from.ensures in
     let v = c.in_ok-to.ensures in
-    let from : c.in_ok-from.from ≡ placeAfter b (i - 1) = u.1 ∙ ap (placeAfter b) (zero-add (i - 1)) in
+    let from : c.in_ok-from.from ≡ place_after b (i - 1) = u.1 ∙ ap (place_after b) (zero-add (i - 1)) in
     let one : i - 1 + 1 ≡ i = omega arith in
-    let to : c.in_ok-to.to ≡ placeAfter b i = v.1 ∙ ap (placeAfter b) one in
+    let to : c.in_ok-to.to ≡ place_after b i = v.1 ∙ ap (place_after b) one in
     let w = whole-bytes b (i - 1) in
     let z = whole-bytes b i in
     let rise = place-rises b i in (

@@ -1,20 +1,20 @@
 use Rattle.std.proofs.Common.{◌≡◌, ℕ, ◌+◌, List, [], ◌∷◌, Some, None, sym, refl, ap, ◌∙◌, arith}
 use Rattle.std.proofs.lemmas.Result.{err_from_is_err_and}
 use Rattle.archive.specs.declared.fault.StateFault.TheVariants.{Bits}
-use Rattle.archive.specs.Layout.{qubits, dimension, weight, phase, header, size_at, firstFault}
+use Rattle.archive.specs.Layout.{qubits, dimension, weight, phase, header, size_at, first_fault}
 use Rattle.archive.proofs.Steps.{cut, fine, fault-none, passes, stops}
 use Rattle.archive.proofs.layout.header.Goals as goal
 
 -- what is left after the number of qubits, after the dimension and after the weight
-module _ (b : List ℕ) (p n : ℕ) (en : n ≡ size_at b p) (one : firstFault b p (qubits ∷ []) ≡ None) where
-  sized : firstFault b p (header (size_at b p)) ≡ firstFault b (p + 6) (dimension n ∷ weight ∷ phase ∷ [])
-  sized = ap (λ m. firstFault b p (header m)) (sym en) ∙ passes b p (qubits ∷ []) _ one (p + 6) refl
+module _ (b : List ℕ) (p n : ℕ) (en : n ≡ size_at b p) (one : first_fault b p (qubits ∷ []) ≡ None) where
+  sized : first_fault b p (header (size_at b p)) ≡ first_fault b (p + 6) (dimension n ∷ weight ∷ phase ∷ [])
+  sized = ap (λ m. first_fault b p (header m)) (sym en) ∙ passes b p (qubits ∷ []) _ one (p + 6) refl
 
-  module _ (two : firstFault b (p + 6) (dimension n ∷ []) ≡ None) where
-    rooted : firstFault b p (header (size_at b p)) ≡ firstFault b (p + 12) (weight ∷ phase ∷ [])
+  module _ (two : first_fault b (p + 6) (dimension n ∷ []) ≡ None) where
+    rooted : first_fault b p (header (size_at b p)) ≡ first_fault b (p + 12) (weight ∷ phase ∷ [])
     rooted = sized ∙ passes b (p + 6) (dimension n ∷ []) _ two (p + 12) (omega arith)
 
-    weighed : firstFault b (p + 12) (weight ∷ []) ≡ None → firstFault b p (header (size_at b p)) ≡ firstFault b (p + 25) (phase ∷ [])
+    weighed : first_fault b (p + 12) (weight ∷ []) ≡ None → first_fault b p (header (size_at b p)) ≡ first_fault b (p + 25) (phase ∷ [])
     weighed three = rooted ∙ passes b (p + 12) (weight ∷ []) _ three (p + 25) (omega arith)
 
 pub returns-in_err-n : goal.returns-in_err-n
@@ -54,7 +54,7 @@ returns c =
     let b = c.args.bytes.now in
     let size = c.in_ok-n.ensures in
     let rank = c.in_ok-k.ensures in (
-      ap (λ m. firstFault b c.args.start (header m)) size.1
+      ap (λ m. first_fault b c.args.start (header m)) size.1
           ∙ weighed b c.args.start c.in_ok-n.n size.1 size.0 rank.0 c.in_ok-number_in.ensures.0
           ∙ fine b (c.args.start + 25) phase [] _ refl c.in_ok-demand.ensures refl ∙ fault-none b _,
       size.1,

@@ -5,7 +5,7 @@ use Rattle.std.proofs.lemmas.Nat.{mul-le, one_shl}
 use Rattle.std.proofs.lemmas.Result.{err_from_is_err_and}
 use Rattle.std.proofs.lemmas.Bool.{lt-ltb}
 use Rattle.archive.specs.declared.fault.StateFault.TheVariants.{Bits}
-use Rattle.archive.specs.Layout.{lead, row, rows, offLeads, firstFault}
+use Rattle.archive.specs.Layout.{lead, row, rows, off_leads, first_fault}
 use Rattle.archive.proofs.Steps.{cut, fault-none}
 use Rattle.archive.proofs.Rows.{Good, next_row, row-broken, row_more}
 use Rattle.archive.proofs.layout.pivots.Goals as goal
@@ -22,7 +22,7 @@ granted false x y e = let z : ◌≡◌ {A = ℕ} 0 1 = cc in absurd (omega arit
 pub loop-a-init : goal.loop-a-init
 loop-a-init c = record {
   stands = omega arith;
-  verdict = ap (λ m. firstFault c.args.bytes.now (c.args.start + 28)
+  verdict = ap (λ m. first_fault c.args.bytes.now (c.args.start + 28)
       (rows c.args.bytes.now c.args.start c.args.n 0 m)) (sym (sub-zero c.args.k));
   order = λ v. sym (lt-ltb (lead v) 64 (omega arith));
   clear = λ t. rw (zero-div (2 ^ t)) refl;
@@ -63,8 +63,8 @@ pub returns : goal.returns
 returns c =
     let b = c.args.bytes.now in
     let full : c.loop-a.a ≡ c.args.k = omega arith in (
-      c.loop-a.invariant.verdict ∙ ap (λ m. firstFault b c.loop-a.at (rows b c.args.start c.args.n m (c.args.k - m))) full
-          ∙ ap (λ m. firstFault b c.loop-a.at (rows b c.args.start c.args.n c.args.k m)) (sub_self c.args.k)
+      c.loop-a.invariant.verdict ∙ ap (λ m. first_fault b c.loop-a.at (rows b c.args.start c.args.n m (c.args.k - m))) full
+          ∙ ap (λ m. first_fault b c.loop-a.at (rows b c.args.start c.args.n c.args.k m)) (sub_self c.args.k)
           ∙ fault-none b _,
-      λ v. ap (offLeads b c.args.start c.args.n v) (sym full) ∙ c.loop-a.invariant.off v,
+      λ v. ap (off_leads b c.args.start c.args.n v) (sym full) ∙ c.loop-a.invariant.off v,
     )

@@ -3,7 +3,7 @@ use native.Mathlib.Nat.{sub-zero}
 use Rattle.std.proofs.lemmas.Result.{err_from_is_err_and}
 use Rattle.std.proofs.lemmas.Nat.{mul-le}
 use Rattle.archive.specs.declared.fault.StateFault.TheVariants.{Bits}
-use Rattle.archive.specs.Layout.{Part, free, copies, firstFault}
+use Rattle.archive.specs.Layout.{Part, free, copies, first_fault}
 use Rattle.archive.proofs.Steps.{cut, fine, fault-none}
 use Rattle.archive.proofs.layout.several.Goals as goal
 
@@ -19,7 +19,7 @@ near i w h g = mul-le i w 2048 2 h g
 pub loop-i-init : goal.loop-i-init
 loop-i-init c = (
   omega arith,
-  ap (λ m. firstFault c.args.bytes.now c.args.start
+  ap (λ m. first_fault c.args.bytes.now c.args.start
       (copies m (free c.args.field c.args.width))) (sym (sub-zero c.args.count)),
 )
 
@@ -35,7 +35,7 @@ returns-in_err-demand c =
     let x = free c.args.field c.args.width in
     let h = c.in_err-demand.ensures in
     let p = err_from_is_err_and c.from_residual.result c.from_residual.ensures.1 in
-    rw (p.1, p.2) (c.loop-i.invariant.1 ∙ ap (firstFault b c.loop-i.at)
+    rw (p.1, p.2) (c.loop-i.invariant.1 ∙ ap (first_fault b c.loop-i.at)
     (copies-more c.loop-i.i c.args.count x c.loop-i-test.true) ∙ cut b _ x _ h.0 ∙ ap (λ f. Some (Bits f)) (sym h.1))
 
 pub loop-i-preserved : goal.loop-i-preserved
@@ -46,7 +46,7 @@ loop-i-preserved c =
     let o = one-mul c.args.width in (
       omega (arith, c.loop-i.invariant.0),
       c.loop-i.invariant.1
-          ∙ ap (firstFault b c.loop-i.at) (copies-more c.loop-i.i c.args.count x c.loop-i-test.true)
+          ∙ ap (first_fault b c.loop-i.at) (copies-more c.loop-i.i c.args.count x c.loop-i-test.true)
           ∙ fine b _ x _ _ refl c.in_ok-demand.ensures refl,
     )
 
@@ -55,7 +55,7 @@ returns c =
     let b = c.args.bytes.now in
     let x = free c.args.field c.args.width in
     let full : c.loop-i.i ≡ c.args.count = omega arith in (
-      c.loop-i.invariant.1 ∙ ap (firstFault b c.loop-i.at) (copies-none c.loop-i.i c.args.count x (omega arith))
+      c.loop-i.invariant.1 ∙ ap (first_fault b c.loop-i.at) (copies-none c.loop-i.i c.args.count x (omega arith))
           ∙ fault-none b _,
       c.loop-i.invariant.0 ∙ ap (λ i. c.args.start + i * c.args.width) full,
     )

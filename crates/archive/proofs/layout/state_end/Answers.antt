@@ -1,18 +1,18 @@
 use Rattle.std.proofs.Common.{◌≡◌, ℕ, ◌+◌, ◌-◌, ◌*◌, ◌/◌, List, [], ◌∷◌, None, sym, ap, ◌∙◌, ap₂, arith}
 use Rattle.std.proofs.lemmas.Result.{err_from_is_err_and}
 use Rattle.archive.specs.Layout.{header, rows, shift, linear, coupling, fill, copies, size_at}
-use Rattle.archive.specs.Layout.{rank_at, pairs, bitCount, padded, firstFault, stateFault, parts_at}
+use Rattle.archive.specs.Layout.{rank_at, pairs, bits_before_fill, padded, first_fault, state_fault, parts_at}
 use Rattle.archive.proofs.Steps.{stops}
 use Rattle.archive.proofs.Whole.{few, few-pairs, end_is, after-header, after-all-rows, after-shift, after-linear, after-coupling}
 use Rattle.archive.proofs.layout.state_end.Goals as goal
 
 -- the couplings, by the reader's numbers
 moved : (b : List ℕ) (k t m q : ℕ) → t ≡ q → m ≡ k - 1
-    → firstFault b q (copies (pairs k) coupling) ≡ firstFault b t (copies (k * m / 2) coupling)
-moved b k t m q et em = ap₂ (λ i j. firstFault b i (copies (k * j / 2) coupling)) (sym et) (sym em)
+    → first_fault b q (copies (pairs k) coupling) ≡ first_fault b t (copies (k * m / 2) coupling)
+moved b k t m q et em = ap₂ (λ i j. first_fault b i (copies (k * j / 2) coupling)) (sym et) (sym em)
 
 pub returns-in_err-n : goal.returns-in_err-n
-unfolding stateFault parts_at
+unfolding state_fault parts_at
 returns-in_err-n c =
     let p = err_from_is_err_and c.from_residual.result c.from_residual.ensures.1 in
     rw (p.1, p.2) (stops c.args.bytes.now _ (header _) _ _ c.in_err-n.ensures)
@@ -67,15 +67,15 @@ returns-in_err-end c =
     ∙ stops b _ (copies _ coupling) _ _ (moved b _ _ _ _ l.1 c.saturating_sub.ensures ∙ c.in_err-end.ensures))
 
 -- the place where the fill begins
-module _ (b : List ℕ) (p n k : ℕ) (en : n ≡ size_at b p) (ek : k ≡ rank_at b p) (h : firstFault b p (header n) ≡ None)
-    (r : firstFault b (p + 28) (rows b p n 0 k) ≡ None) (s : firstFault b (p + 28 + k * n) (shift b p n k ∷ []) ≡ None)
-    (l : firstFault b (p + 28 + k * n + n) (copies k linear) ≡ None) (t m q : ℕ) (et : t ≡ p + 28 + k * n + n + k * 2) (em : m ≡ k - 1)
-    (z : firstFault b t (copies (k * m / 2) coupling) ≡ None) (eq : q ≡ t + k * m / 2 * 1) where
-  at_fill : q ≡ p + bitCount n k
+module _ (b : List ℕ) (p n k : ℕ) (en : n ≡ size_at b p) (ek : k ≡ rank_at b p) (h : first_fault b p (header n) ≡ None)
+    (r : first_fault b (p + 28) (rows b p n 0 k) ≡ None) (s : first_fault b (p + 28 + k * n) (shift b p n k ∷ []) ≡ None)
+    (l : first_fault b (p + 28 + k * n + n) (copies k linear) ≡ None) (t m q : ℕ) (et : t ≡ p + 28 + k * n + n + k * 2) (em : m ≡ k - 1)
+    (z : first_fault b t (copies (k * m / 2) coupling) ≡ None) (eq : q ≡ t + k * m / 2 * 1) where
+  at_fill : q ≡ p + bits_before_fill n k
   at_fill = let j = ap (λ i. k * i / 2) em in omega arith
 
-  before-fill : stateFault b p ≡ firstFault b q (fill q ∷ [])
-  before-fill = after-coupling b p n k en ek h r s l (moved b k t m _ et em ∙ z) ∙ ap (λ i. firstFault b i (fill i ∷ [])) (sym at_fill)
+  before-fill : state_fault b p ≡ first_fault b q (fill q ∷ [])
+  before-fill = after-coupling b p n k en ek h r s l (moved b k t m _ et em ∙ z) ∙ ap (λ i. first_fault b i (fill i ∷ [])) (sym at_fill)
 
 pub returns-in_err-number_in : goal.returns-in_err-number_in
 returns-in_err-number_in c =

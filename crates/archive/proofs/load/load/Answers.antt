@@ -1,8 +1,8 @@
 use Rattle.std.proofs.Common.{◌≡◌, ℕ, suc, ◌+◌, List, [], ◌∷◌, ◌++◌, length, vec_items, sym, ap, ◌∙◌, subst, add-zero, zero-add, arith, length-append}
 use Rattle.stabilizer.specs.declared.state.StabilizerState.{StabilizerState}
-use Rattle.archive.specs.Archives.{placeAfter}
+use Rattle.archive.specs.Archives.{place_after}
 use Rattle.archive.specs.Held.{Holds}
-use Rattle.archive.specs.Layout.{stateFault}
+use Rattle.archive.specs.Layout.{state_fault}
 use Rattle.archive.specs.Loads.{InTurn}
 use Rattle.archive.proofs.First.{none-some}
 use Rattle.archive.proofs.States.{first-place, state-good}
@@ -11,11 +11,11 @@ use Rattle.archive.proofs.load.load.Goals as goal
 
 -- one state more
 one_more : (b : List ℕ) (i : ℕ) (ss : List StabilizerState) (s : StabilizerState) → InTurn b i ss
-    → Holds b (placeAfter b (i + length ss)) s → InTurn b i (ss ++ s ∷ [])
-one_more b i [] s t h = (subst (λ m. Holds b (placeAfter b m) s) (add-zero i) h, tt)
+    → Holds b (place_after b (i + length ss)) s → InTurn b i (ss ++ s ∷ [])
+one_more b i [] s t h = (subst (λ m. Holds b (place_after b m) s) (add-zero i) h, tt)
 one_more b i (r ∷ ss) s t h =
     let e : i + suc (length ss) ≡ i + 1 + length ss = omega arith in
-    (t.0, one_more b (i + 1) ss s t.1 (subst (λ m. Holds b (placeAfter b m) s) e h))
+    (t.0, one_more b (i + 1) ss s t.1 (subst (λ m. Holds b (place_after b m) s) e h))
 
 pub loop-i-init : goal.loop-i-init
 loop-i-init c =
@@ -39,7 +39,7 @@ pub build-requires : goal.build-requires
 build-requires c =
     let h = c.in_ok-count.ensures in (
       omega (arith, c.loop-i.invariant.1, h.2),
-      ap (stateFault c.args.archive.now) c.loop-i.invariant.0
+      ap (state_fault c.args.archive.now) c.loop-i.invariant.0
           ∙ state-good _ _ c.in_ok-end.ensures.0,
     )
 
@@ -50,8 +50,8 @@ loop-i-preserved c =
     let u = c.in_ok-end.ensures in
     let p = c.in_ok-push.ensures in
     let ss = vec_items c.loop-i.states in
-    let here : c.loop-i.at ≡ placeAfter b (0 + length ss) = c.loop-i.invariant.0
-    ∙ ap (placeAfter b) (sym (zero-add (length ss) ∙ c.loop-i.invariant.4)) in (
+    let here : c.loop-i.at ≡ place_after b (0 + length ss) = c.loop-i.invariant.0
+    ∙ ap (place_after b) (sym (zero-add (length ss) ∙ c.loop-i.invariant.4)) in (
       u.1,
       u.2,
       u.3,

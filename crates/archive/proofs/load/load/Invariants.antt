@@ -1,9 +1,9 @@
 use Rattle.std.proofs.Common.{◌≡◌, ◌+◌, ◌*◌, ◌≤◌, length, vec_items, vec_len}
-use Rattle.archive.specs.Archives.{placeAfter}
+use Rattle.archive.specs.Archives.{place_after}
 use Rattle.archive.specs.Loads.{InTurn}
 use Rattle.archive.proofs.load.load.Given as goal
 
 abbrev pub invariant-loop-i : goal.invariant-loop-i
 invariant-loop-i l =
-    (l.at ≡ placeAfter l.archive l.i) × (l.at ≤ 8 + l.i * 4096) × (l.at ≤ 8 * length l.archive)
+    (l.at ≡ place_after l.archive l.i) × (l.at ≤ 8 + l.i * 4096) × (l.at ≤ 8 * length l.archive)
     × (vec_len l.states ≡ l.i) × (length (vec_items l.states) ≡ l.i) × InTurn l.archive 0 (vec_items l.states)

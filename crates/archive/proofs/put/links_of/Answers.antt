@@ -1,12 +1,12 @@
 use Rattle.std.proofs.Common.{◌≡◌, ℕ, ◌/◌, ◌<◌, get_or, ◌∙◌, arith, length-set}
-use Rattle.quadratic.specs.Fields.{couplingAt}
+use Rattle.quadratic.specs.Fields.{coupling_between}
 use Rattle.quadratic.specs.Quadratic.{link}
 use Rattle.quadratic.specs.declared.phased.PhasedSpace.{PhasedSpace}
 use Rattle.archive.proofs.Coefficients.{link-low}
 use Rattle.archive.proofs.Frames.{table_more}
 use Rattle.archive.proofs.put.links_of.Goals as goal
 
-quartered : (s : PhasedSpace) (p q x : ℕ) → x ≡ couplingAt s p q → (x / 4 ≡ link s.form.coupling p q) × (x / 4 < 2)
+quartered : (s : PhasedSpace) (p q x : ℕ) → x ≡ coupling_between s p q → (x / 4 ≡ link s.form.coupling p q) × (x / 4 < 2)
 quartered s p q x e = (omega arith, omega (arith, link-low s.form p q))
 
 pub loop-c-preserved : goal.loop-c-preserved

@@ -1,7 +1,7 @@
 use Rattle.std.proofs.Common.{◌≡◌, ℕ, ◌+◌, ◌-◌, ◌*◌, ◌<◌, ◌≤◌, get_or, sym, refl, ap, ◌∙◌, subst, inl, inr, arith}
 use Rattle.std.proofs.lemmas.Nat.{mul-le}
 use Rattle.std.proofs.lemmas.Bool.{cases_eq}
-use Rattle.archive.specs.Bits.{bitsAt, Framed}
+use Rattle.archive.specs.Bits.{bits_from, Framed}
 use Rattle.archive.proofs.Frames.{keep-before, both, next_place, field-within}
 use Rattle.archive.proofs.put.put_all.Goals as goal
 
@@ -43,7 +43,7 @@ loop-j-preserved c =
     let one : j + 1 - f ≡ j - f + 1 = omega (arith, c.loop-j.auto.j) in
     let e : p + (j + 1 - f) * w ≡ p + (j - f) * w + w = ap (λ t. p + t * w) one ∙ next_place p (j - f) w in (
       λ i h l. elim (cases_eq i j) [
-        | inl here ↦ ap (λ t. bitsAt new (p + (t - f) * w) w) here ∙ c.put_bits.ensures.there
+        | inl here ↦ ap (λ t. bits_from new (p + (t - f) * w) w) here ∙ c.put_bits.ensures.there
             ∙ ap (λ t. get_or c.args.values.now t 0) (sym here)
         | inr there ↦
             keep-before c.loop-j.buffer new (p + (j - f) * w) (p + (j - f) * w + w) (p + (i - f) * w) w put

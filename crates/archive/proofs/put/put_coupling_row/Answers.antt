@@ -1,15 +1,15 @@
 use Rattle.std.proofs.Common.{◌≡◌, ℕ, suc, ◌+◌, ◌-◌, ◌*◌, ◌<◌, sym, refl, ap, ◌∙◌, subst, mul-one, arith}
-use Rattle.archive.specs.Bits.{bitsAt, Framed}
-use Rattle.archive.specs.Held.{couplingPlace}
+use Rattle.archive.specs.Bits.{bits_from, Framed}
+use Rattle.archive.specs.Held.{place_of_coupling}
 use Rattle.archive.proofs.Pairs.{pairs-split}
 use Rattle.archive.proofs.Whole.{few, few-pairs}
 use Rattle.archive.proofs.put.put_coupling_row.Goals as goal
 
 -- the place of the coupling with row c, and the place after the last
-shifted : (n k a c first : ℕ) → first ≡ couplingPlace 0 n k a (suc a) → a < c → first + (c - (a + 1)) * 1 ≡ couplingPlace 0 n k a c
+shifted : (n k a c first : ℕ) → first ≡ place_of_coupling 0 n k a (suc a) → a < c → first + (c - (a + 1)) * 1 ≡ place_of_coupling 0 n k a c
 shifted n k a c first e l = let z : suc a - suc a ≡ 0 = omega arith in let m = mul-one (c - (a + 1)) in omega arith
 
-last : (n k a first : ℕ) → first ≡ couplingPlace 0 n k a (suc a) → first + (k - (a + 1)) * 1 ≡ couplingPlace 0 n k (suc a) (suc (suc a))
+last : (n k a first : ℕ) → first ≡ place_of_coupling 0 n k a (suc a) → first + (k - (a + 1)) * 1 ≡ place_of_coupling 0 n k (suc a) (suc (suc a))
 last n k a first e =
     let z : suc a - suc a ≡ 0 = omega arith in
     let y : suc (suc a) - suc (suc a) ≡ 0 = omega arith in
@@ -39,8 +39,8 @@ returns c =
     let e = c.coupling_place.ensures in
     record {
       there = λ j h l.
-          ap (λ q. bitsAt d q 1) (sym (shifted n k a j _ e h)) ∙ c.put_all.ensures.there j (omega arith) l
+          ap (λ q. bits_from d q 1) (sym (shifted n k a j _ e h)) ∙ c.put_all.ensures.there j (omega arith) l
           ∙ (c.links_of-links.ensures.0 j l).0;
-      framed = subst (λ t. Framed c.args.buffer.now d (couplingPlace 0 n k a (suc a)) t) (last n k a _ e)
+      framed = subst (λ t. Framed c.args.buffer.now d (place_of_coupling 0 n k a (suc a)) t) (last n k a _ e)
           (subst (λ t. Framed c.args.buffer.now d t (c.coupling_place.result + (k - (a + 1)) * 1)) e c.put_all.ensures.framed);
     }

@@ -1,7 +1,7 @@
 use Rattle.std.proofs.Common.{◌≡◌, ◌+◌, ◌*◌, ◌≤◌, sym, subst, zero-mul, arith}
-use Rattle.archive.specs.Bits.{bitsAt, Framed}
-use Rattle.archive.specs.Held.{linearPlace}
-use Rattle.archive.specs.Layout.{bitCount, padded, padding}
+use Rattle.archive.specs.Bits.{bits_from, Framed}
+use Rattle.archive.specs.Held.{linear_place}
+use Rattle.archive.specs.Layout.{bits_before_fill, padded, padding}
 use Rattle.archive.specs.Writes.{HeaderPut}
 use Rattle.archive.proofs.Frames.{both}
 use Rattle.archive.proofs.Kept.{header-kept, rows-kept, linear-kept, form-kept}
@@ -23,14 +23,14 @@ returns c =
     let f₄ = c.put_couplings.ensures.framed in
     let head = subst (HeaderPut b₁ n k c.args.loss) c.phase.ensures c.put_header.ensures.put in
     let z = zero-mul 2 in
-    let i₂ : 28 ≤ linearPlace 0 n k 0 = omega arith in
-    let i₃ : linearPlace 0 n k 0 ≤ linearPlace 0 n k k = omega arith in
-    let i₄ : linearPlace 0 n k k ≤ bitCount n k = omega arith in
-    let row-end : linearPlace 0 n k 0 ≡ 28 + k * n + n = omega arith in
+    let i₂ : 28 ≤ linear_place 0 n k 0 = omega arith in
+    let i₃ : linear_place 0 n k 0 ≤ linear_place 0 n k k = omega arith in
+    let i₄ : linear_place 0 n k k ≤ bits_before_fill n k = omega arith in
+    let row-end : linear_place 0 n k 0 ≡ 28 + k * n + n = omega arith in
     let f₂' = subst (Framed b₁ b₂ 28) (sym row-end) f₂ in
     let e = c.bit_count-end.ensures.0 in
     let b₅ = c.put_bits.new.bytes in
-    let f₅ : Framed b₄ b₅ (bitCount n k) (padded (bitCount n k)) = subst (λ q. Framed b₄ b₅ q (padded q)) e
+    let f₅ : Framed b₄ b₅ (bits_before_fill n k) (padded (bits_before_fill n k)) = subst (λ q. Framed b₄ b₅ q (padded q)) e
     c.put_bits.ensures.framed in
     record {
       header = header-kept b₄ b₅ _ f₅.0 n k (omega arith) _ _ (header-kept b₃ b₄ _ f₄.0 n k (omega arith) _ _
@@ -42,9 +42,9 @@ returns c =
         linear = linear-kept b₃ b₄ _ f₄.0 n k leads t (omega arith) c.put_linear.ensures.there;
         coupling = c.put_couplings.ensures.there;
       });
-      fill = subst (λ q. bitsAt b₅ q (padding q) ≡ 0) e c.put_bits.ensures.there;
-      framed = both b₀ b₄ b₅ 0 (bitCount n k) (padded (bitCount n k)) (omega arith) (omega arith)
-          (both b₀ b₃ b₄ 0 (linearPlace 0 n k k) (bitCount n k) (omega arith) i₄
-          (both b₀ b₂ b₃ 0 (linearPlace 0 n k 0) (linearPlace 0 n k k) (omega arith) i₃
-          (both b₀ b₁ b₂ 0 28 (linearPlace 0 n k 0) (omega arith) i₂ c.put_header.ensures.framed f₂') f₃) f₄) f₅;
+      fill = subst (λ q. bits_from b₅ q (padding q) ≡ 0) e c.put_bits.ensures.there;
+      framed = both b₀ b₄ b₅ 0 (bits_before_fill n k) (padded (bits_before_fill n k)) (omega arith) (omega arith)
+          (both b₀ b₃ b₄ 0 (linear_place 0 n k k) (bits_before_fill n k) (omega arith) i₄
+          (both b₀ b₂ b₃ 0 (linear_place 0 n k 0) (linear_place 0 n k k) (omega arith) i₃
+          (both b₀ b₁ b₂ 0 28 (linear_place 0 n k 0) (omega arith) i₂ c.put_header.ensures.framed f₂') f₃) f₄) f₅;
     }

@@ -1,6 +1,6 @@
 use Rattle.std.proofs.Common.{◌+◌, ◌*◌, sym, ap, ◌∙◌, subst, arith}
 use native.Mathlib.Nat.{sub-zero}
-use Rattle.archive.specs.Bits.{bitsAt, Framed}
+use Rattle.archive.specs.Bits.{bits_from, Framed}
 use Rattle.archive.proofs.Frames.{keep-before, both, field-within}
 use Rattle.archive.proofs.put.put_rows.Goals as goal
 
@@ -15,7 +15,7 @@ returns c =
       put = record {
         rows = λ a l.
             keep-before b d (28 + k * n) (28 + k * n + n) (28 + a * n) n c.put_bits.ensures.framed (field-within 28 a k n l)
-            ∙ ap (λ t. bitsAt b (28 + t * n) n) (sym (sub-zero a)) ∙ c.put_all.ensures.there a (omega arith) l
+            ∙ ap (λ t. bits_from b (28 + t * n) n) (sym (sub-zero a)) ∙ c.put_all.ensures.there a (omega arith) l
             ∙ c.rows_of-rows.ensures.0 a l;
         shift = c.put_bits.ensures.there ∙ c.shift.ensures;
       };

@@ -4,13 +4,13 @@ use Rattle.std.proofs.lemmas.Result.{err_from_is_err_and}
 use Rattle.std.proofs.lemmas.Bool.{eq-eqb, cond-true}
 use Rattle.cyclotomic.specs.Refusals.{answer_of}
 use Rattle.cyclotomic.specs.Scalars.{triple_of}
-use Rattle.stabilizer.specs.Overlaps.{sizesNumber}
+use Rattle.stabilizer.specs.Overlaps.{sizes_number}
 use Rattle.stabilizer.specs.declared.state.StabilizerState.{StabilizerState}
 use Rattle.circuit.specs.Runs.{Worth}
 use Rattle.circuit.proofs.Walking.{comes-aside, comes-value, run-qubits}
 use Rattle.circuit.proofs.division.split.Goals as goal
 
-one_size : (t s : StabilizerState) → t.qubits ≡ s.qubits → 0 ≡ sizesNumber t s
+one_size : (t s : StabilizerState) → t.qubits ≡ s.qubits → 0 ≡ sizes_number t s
 one_size t s q = sym (cond-true _ 0 23 (eq-eqb _ _ q))
 
 pub returns-then-met : goal.returns-then-met

@@ -1,6 +1,6 @@
 use Rattle.std.proofs.Common.{◌≡◌, ◌/◌, sym, ap, ◌∙◌, arith}
 use Rattle.cyclotomic.specs.Ring.{power}
-use Rattle.cyclotomic.specs.CommFacts.{one-times}
+use Rattle.cyclotomic.specs.CommFacts.{one_times}
 use Rattle.cyclotomic.proofs.Powers.{even_step, odd_step}
 use Rattle.cyclotomic.proofs.embedding.power.Goals as goal
 use Rattle.cyclotomic.proofs.embedding.power.Goals.{then-left-eq1, else-left-eq1}
@@ -9,7 +9,7 @@ pub loop-left-init : goal.loop-left-init
 loop-left-init g c =
     let m = g.R.Ring in
     ap (λ x. m.ops.times x (power m.ops (m.value c.args.base) c.args.exponent)) c.one-result.ensures
-    ∙ one-times m.laws.comm _
+    ∙ one_times m.laws.comm _
 
 pub loop-left-preserved : goal.loop-left-preserved
 loop-left-preserved g c =
@@ -34,5 +34,5 @@ returns g c =
     let m = g.R.Ring in
     let e : c.loop-left.left ≡ 0 = omega arith in
     sym (ap (λ n. m.ops.times (m.value c.loop-left.result) (power m.ops (m.value c.loop-left.square) n)) e
-    ∙ m.laws.comm.times-one _)
+    ∙ m.laws.comm.times_one _)
     ∙ c.loop-left.invariant

@@ -1,5 +1,5 @@
 use Rattle.std.proofs.Common.{◌<◌, ◌≢◌, length, ap, ◌∙◌, arith, length-set, get_or-set_other, get_or-set_same, rules, below_more}
-use Rattle.listing.specs.Digits.{glyphOf}
+use Rattle.listing.specs.Digits.{glyph_of}
 use Rattle.listing.proofs.text.column_digits.Goals as goal
 
 pub loop-place-preserved : goal.loop-place-preserved
@@ -10,5 +10,5 @@ loop-place-preserved g c =
       below_more _ _
           (λ k h. let ne : k ≢ place = omega arith in rw get_or-set_other (c.loop-place.invariant.1 k h))
           (get_or-set_same c.loop-place.digits place c.glyph.result 0 within
-          ∙ (c.glyph.ensures.0 c.digit.ensures.1 ∙ ap glyphOf c.digit.ensures.0)),
+          ∙ (c.glyph.ensures.0 c.digit.ensures.1 ∙ ap glyph_of c.digit.ensures.0)),
     )

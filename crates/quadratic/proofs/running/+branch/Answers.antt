@@ -2,7 +2,7 @@ use Rattle.std.proofs.Common.{◌≡◌, ℕ, ◌+◌, ◌%◌, ◌^◌, ◌<◌
 use lib.Bits.{bit_xor}
 use Rattle.cyclotomic.specs.Ring.{wpow}
 use Rattle.quadratic.specs.Bits.{bit}
-use Rattle.quadratic.specs.Sums.{over, formPower}
+use Rattle.quadratic.specs.Sums.{over, form_power}
 use Rattle.quadratic.specs.Value.{value_at}
 use Rattle.quadratic.proofs.Lowest.{set_below, drop-bit}
 use Rattle.quadratic.proofs.Over.{over_none, over-split}
@@ -11,7 +11,7 @@ use Rattle.quadratic.proofs.running.+branch.Goals as goal
 pub returns-then-mask-eq0 : goal.returns-then-mask-eq0
 returns-then-mask-eq0 g t c =
     let m = g.R.Ring in
-    let f = formPower m.ops c.args.form.now in
+    let f = form_power m.ops c.args.form.now in
     c.at.ensures ∙ ap (wpow m.ops) c.requires.here
     ∙ sym (ap (λ x. over m.ops f x 48 c.args.c) c.if-mask-eq0.true ∙ over_none m.laws.comm f 48 c.args.c)
 
@@ -55,7 +55,7 @@ branch-form-requires-2 g t c κs within =
 pub returns : goal.returns
 returns g t c =
     let m = g.R.Ring in
-    let f = formPower m.ops c.args.form.now in
+    let f = form_power m.ops c.args.form.now in
     let a = c.lowest-a.result in
     let on = c.lowest-a.ensures.on in
     let e = c.turned-rest.ensures in

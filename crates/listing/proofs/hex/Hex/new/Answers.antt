@@ -1,9 +1,9 @@
 use Rattle.std.proofs.Common.{◌≡◌, ℕ, List, [], ◌∷◌, length, get_or, refl, ap, inl, arith}
-use Rattle.listing.specs.Digits.{Paired, digitsOf}
+use Rattle.listing.specs.Digits.{Paired, digits_of}
 use Rattle.listing.proofs.hex.Hex.new.Goals as goal
 
 -- a single byte `-`
-single : (w : List ℕ) → length w ≡ 1 → get_or w 0 0 ≡ 45 → Paired w × ([] ≡ digitsOf w)
+single : (w : List ℕ) → length w ≡ 1 → get_or w 0 0 ≡ 45 → Paired w × ([] ≡ digits_of w)
 single [] e h = absurd (omega arith)
 single (b ∷ []) e h = (inl (ap (λ (x : ℕ). x ∷ []) h), refl)
 single (b ∷ c ∷ w) e h = absurd (omega arith)

@@ -5,7 +5,7 @@ pub returns : goal.returns
 returns g c =
     let m = g.R.Ring in
     let w = c.omega-p1.ensures in
-    let first = w ∙ sym (m.laws.comm.times-one m.ops.w) in
+    let first = w ∙ sym (m.laws.comm.times_one m.ops.w) in
     let second = c.times-p2.ensures ∙ ap₂ m.ops.times w first in
     let third = c.times-p3.ensures ∙ ap₂ m.ops.times w second in
     let fourth = c.times-p4.ensures ∙ ap₂ m.ops.times w third in

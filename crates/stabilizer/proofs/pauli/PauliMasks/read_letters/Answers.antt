@@ -2,7 +2,7 @@ use Rattle.std.proofs.Common.{◌≡◌, ◌+◌, ◌-◌, ◌^◌, ◌<◌, len
 use Rattle.std.proofs.lemmas.List.{drop_all, drop_more}
 use Rattle.std.proofs.lemmas.Result.{err_from_is_err_and}
 use Rattle.stabilizer.specs.Masks.{MaskedLetters}
-use Rattle.stabilizer.specs.Paulis.{lettersOf}
+use Rattle.stabilizer.specs.Paulis.{letters_of}
 use Rattle.stabilizer.proofs.Texts.{letter-more, letter-bad, masks-none, masked}
 use Rattle.stabilizer.proofs.pauli.PauliMasks.read_letters.Goals as goal
 
@@ -28,7 +28,7 @@ returns-in_err-masks c =
     let i = c.loop-i.i - 1 in
     let p = err_from_is_err_and c.from_residual.result c.from_residual.ensures.1 in
     let h : i < length xs = omega arith in
-    subst (λ r. MaskedLetters r (lettersOf xs)) (sym (p.1 ∙ ap (λ e. Err e) p.2))
+    subst (λ r. MaskedLetters r (letters_of xs)) (sym (p.1 ∙ ap (λ e. Err e) p.2))
     (letter-bad xs i (get_or xs i 0) _ _ _ (drop_more xs i 0 h) c.in_err-masks.ensures)
 
 pub loop-i-preserved : goal.loop-i-preserved
@@ -40,6 +40,6 @@ loop-i-preserved c =
     let rest : length xs - 1 - i ≡ length (drop (i + 1) xs) = simp length-drop (omega arith) in (
       omega arith,
       rw (drop_more xs i 0 h) (letter-more (get_or xs i 0) (drop (i + 1) xs) _ _ _ rest
-          (subst (λ k. MaskedLetters (Ok c.loop-i.masks) (lettersOf (drop k xs))) (sym e) c.loop-i.invariant.1)
+          (subst (λ k. MaskedLetters (Ok c.loop-i.masks) (letters_of (drop k xs))) (sym e) c.loop-i.invariant.1)
           c.in_ok-masks.ensures),
     )

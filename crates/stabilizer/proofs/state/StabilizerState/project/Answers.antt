@@ -1,16 +1,16 @@
 use Rattle.std.proofs.Common.{◌≡◌, ℕ, List, Some, sym, refl, subst, lt_of_lt_of_le, arith, pow_mono}
 use Rattle.stabilizer.specs.Calls.{Projected, ProjectedBy, impossible, exhausted, kept}
-use Rattle.stabilizer.specs.Paulis.{Pauli, pauliOf, textNumber}
+use Rattle.stabilizer.specs.Paulis.{Pauli, pauli_of, text_number}
 use Rattle.stabilizer.specs.declared.state.StabilizerState.{StabilizerState}
 use Rattle.stabilizer.proofs.Halving.{vanishes, stays, not-nothing, body_below, not-vanished, not_same, lowered}
 use Rattle.stabilizer.proofs.Texts.{known}
 use Rattle.stabilizer.proofs.state.StabilizerState.project.Goals as goal
 
 -- a text that is a Pauli for these qubits
-by-text : (n : ℕ) (text : List ℕ) (P : Pauli) (s : StabilizerState) (a : ℕ) (s' : StabilizerState) → 0 ≡ textNumber n text
-    → pauliOf text ≡ Some P → Projected P s a s' → ProjectedBy (textNumber n text) (pauliOf text) s a s'
+by-text : (n : ℕ) (text : List ℕ) (P : Pauli) (s : StabilizerState) (a : ℕ) (s' : StabilizerState) → 0 ≡ text_number n text
+    → pauli_of text ≡ Some P → Projected P s a s' → ProjectedBy (text_number n text) (pauli_of text) s a s'
 by-text n text P s a s' e p h =
-    subst (λ o. ProjectedBy (textNumber n text) o s a s') (sym p) (subst (λ k. ProjectedBy k (Some P) s a s') e h)
+    subst (λ o. ProjectedBy (text_number n text) o s a s') (sym p) (subst (λ k. ProjectedBy k (Some P) s a s') e h)
 
 pub project-requires : goal.project-requires
 project-requires c =
