@@ -18,9 +18,3 @@ first_some (None ∷ xs) f e =
     let r = first_some xs f e in
     record { earlier = None ∷ r.earlier; later = r.later; among = ap (λ t. None ∷ t) r.among; fine = (refl, r.fine) }
 first_some (Some g ∷ xs) f e = record { earlier = []; later = xs; among = ap (λ t. t ∷ xs) e; fine = tt }
-
--- of an answer that agrees with the computed fault
-pub first_of : {T F : Type 0} (xs : List (Option F)) (r : Result T F) (P : T → Type 0)
-    → MatchResult r (λ x. (first xs ≡ None) × P x) (λ f. first xs ≡ Some f) → MatchResult r (λ _. Faultless xs) (First xs)
-first_of xs (Ok x) P h = first-none xs h.0
-first_of xs (Err f) P h = first_some xs f h

@@ -1,5 +1,5 @@
-// Times nothing itself, but does what is timed: bench MODE ROUNDS, with an archive on standard input. It prints how many overlaps were taken
-// or strings added, and a number made of every result.
+// Times nothing itself, but does what is timed: bench MODE ROUNDS, with an archive on standard input. It prints how many overlaps
+// were taken or strings added, and a number made of every result.
 #![tactic(auto)]
 
 ghost use Rattle.std.specs.Prelude.{◌<◌, length};
@@ -8,8 +8,8 @@ use archive::load::load;
 use cyclotomic::mod17::Mod17;
 use cyclotomic::quads::Cyclotomic64;
 use cyclotomic::ring::Column;
-use listing::columns::columns_of;
 use quadratic::intersection::Intersection;
+use quadratic::running::total;
 use stabilizer::overlap::{intersect, overlap};
 use stabilizer::state::StabilizerState;
 use std::io::Read;
@@ -67,11 +67,12 @@ impl Tally {
         if dimension > 12 {
             return;
         }
-        if let Some(sums) = columns_of(&both) {
-            self.count = self.count.wrapping_add(2 << dimension);
-            self.note(u64::from(sums.residue.digit(1)));
-            self.note(sums.quad.word(0));
-        }
+        let residues = total::<Mod17>(&both);
+        let quads = total::<Cyclotomic64>(&both);
+        self.count = self.count.wrapping_add(residues.count());
+        self.count = self.count.wrapping_add(quads.count());
+        self.note(u64::from(residues.value().digit(1)));
+        self.note(quads.value().word(0));
     }
 
     // Does what the mode says with the state at i and each after it.

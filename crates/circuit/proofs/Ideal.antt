@@ -8,15 +8,20 @@ use Rattle.cyclotomic.specs.CommFacts
 use Rattle.cyclotomic.specs.Ring.{two}
 use Rattle.cyclotomic.proofs.Exact.{bar}
 use Rattle.cyclotomic.proofs.Scalars.{double-same}
-use Rattle.stabilizer.specs.Calls.{Call, gate, project, applied, doubled, input_number}
-use Rattle.stabilizer.specs.Gates.{takes, gate_numbered, operands_number, gate_matrix}
-use Rattle.stabilizer.specs.Paulis.{Pauli, pauli_of}
+use Rattle.stabilizer.specs.Calls.{Call, gate, project, applied, doubled}
+use Rattle.stabilizer.specs.Gates.{takes, gate_numbered, gate_number, operands_number, gate_matrix}
+use Rattle.stabilizer.specs.Paulis.{Pauli, pauli_of, text_number}
 use Rattle.stabilizer.proofs.Texts.{pauli-length, text-length}
 use Rattle.stabilizer.specs.declared.gate.Gate.{Gate}
 use Rattle.circuit.specs.Runs.{kind_inverse, inverse, backwards}
 use Rattle.circuit.proofs.Adjoint.{Vector, Adjoint, laws, bar-one, bar-two, bar-times, adjoint-none, adjoint-applied, adjoint-plus}
 use Rattle.circuit.proofs.Adjoint.{adjoint-then}
 use Rattle.stabilizer.proofs.Matrices.{inverseGate, takes-inverse, gate-opposite, pauli-opposite}
+
+-- the number with which a call is refused for what is handed in, whatever the state of n qubits holds; else 0
+abbrev pub input_number : ℕ → Call → ℕ
+input_number n (gate kind j l) = gate_number n kind j l
+input_number n (project text) = text_number n text
 
 infixl 70 ◌⊗◌
 open omegas use {one, times as ◌⊗◌}

@@ -53,3 +53,7 @@ pub record Valued {calls : List Call} {place : ℕ} {s t : StabilizerState} (d :
 -- every division of the list that counts, whatever its place, has this value
 abbrev pub EveryDivision : List Call → StabilizerState → StabilizerState → Triple → Type 0
 EveryDivision calls s t value = (place : ℕ) (d : Division calls place s t) (other : Triple) → Valued d other → other ≡ value
+
+-- whatever the places, all divisions of the list that count have one value
+abbrev pub OneValue : List Call → StabilizerState → StabilizerState → Type 0
+OneValue calls s t = (place : ℕ) (d : Division calls place s t) (value : Triple) → Valued d value → EveryDivision calls s t value

@@ -2,7 +2,7 @@ ghost use Rattle.std.specs.Prelude.{◌≡◌, ◌<◌, ◌≤◌, Bool, ◌||�
 ghost use Rattle.cyclotomic.specs.Refusals.{answer_of};
 ghost use Rattle.stabilizer.specs.Overlaps.{sizes_number};
 ghost use Rattle.circuit.specs.Made.{call_of};
-ghost use Rattle.circuit.specs.Runs.{backwards};
+ghost use Rattle.circuit.specs.Runs.{backwards, OneValue};
 ghost use Rattle.circuit.specs.Splits.{Ran, Divided};
 
 use crate::call::Call;
@@ -68,6 +68,7 @@ pub fn split(
 ) -> Result<SplitValue, Refusal>
     ensures number { answer_of result ≡ sizes_number t.now s.now }
     ensures value { Divided result (map call_of calls.now) place s.now t.now }
+    ensures one_value { t.now.qubits ≡ s.now.qubits → OneValue (map call_of calls.now) s.now t.now }
 {
     if t.qubits() != s.qubits() {
         return Err(Refusal::Sizes);

@@ -7,12 +7,11 @@ use cyclotomic::embedding::embed;
 use cyclotomic::mod17::Mod17;
 use cyclotomic::quads::Cyclotomic64;
 use cyclotomic::refusal::Refusal;
-use cyclotomic::ring::Ring;
 use cyclotomic::scalar::Scalar;
 use listing::fault_line::FaultLine;
 use quadratic::coordinates::exact_coordinates;
 use quadratic::intersection::Intersection;
-use quadratic::running::RunningSum;
+use quadratic::running::added;
 use quadratic::sum::exponential_sum;
 use stabilizer::overlap::{intersect, overlap};
 use stabilizer::state::StabilizerState;
@@ -202,17 +201,17 @@ fn of_denial(denial: Denial) -> Answer {
 fn total(x: &Intersection, ring: RingName, times: u64) -> Answer {
     match ring {
         RingName::Mod17 => {
-            let (number, sum) = added::<Mod17>(x, times);
+            let (sum, last) = added::<Mod17>(x, times);
             Answer::Total {
-                number,
+                number: number_of(last),
                 count: sum.count(),
                 value: RingValue::Mod17(sum.value()),
             }
         }
         RingName::Quad => {
-            let (number, sum) = added::<Cyclotomic64>(x, times);
+            let (sum, last) = added::<Cyclotomic64>(x, times);
             Answer::Total {
-                number,
+                number: number_of(last),
                 count: sum.count(),
                 value: RingValue::Quad(sum.value()),
             }
@@ -234,14 +233,10 @@ fn embedded(ring: RingName, scalar: Scalar) -> Answer {
     }
 }
 
-// A fresh running sum that is handed the intersection so many times, and the number of its last answer. A sum that has refused once
-// goes on to refuse, so the first refusal ends the calls.
-fn added<R: Ring>(x: &Intersection, times: u64) -> (u64, RunningSum<R>) {
-    let mut sum = RunningSum::<R>::new();
-    for _ in 0..times {
-        if let Err(refusal) = sum.add(x) {
-            return (refusal.number(), sum);
-        }
+// The number of an answer, 0 where it was granted.
+fn number_of(answer: Result<(), Refusal>) -> u64 {
+    match answer {
+        Ok(()) => 0,
+        Err(refusal) => refusal.number(),
     }
-    (0, sum)
 }

@@ -1,9 +1,10 @@
 use Rattle.std.proofs.Common.{◌≡◌, ℕ, zero, suc, sym, refl, ap, ◌∙◌, ap₂}
-use Rattle.cyclotomic.specs.Ring.{Ops, CommLaws, Hom, wpow, root}
+use Rattle.cyclotomic.specs.Ring.{Ops, CommLaws, wpow, root}
 use Rattle.cyclotomic.specs.Adjoin.{Pair, tower, quad, conj}
 use Rattle.cyclotomic.specs.CommFacts
 use Rattle.cyclotomic.specs.CommFacts.{ring, units, negs}
 use Rattle.cyclotomic.specs.AdjoinLaws.{both, tower_laws}
+use Rattle.cyclotomic.proofs.Maps.{Hom}
 
 pub four : {R : Type 0} {a b c d a' b' c' d' : R} → a ≡ a' → b ≡ b' → c ≡ c' → d ≡ d' → quad a b c d ≡ quad a' b' c' d'
 four p q r s = both (both p r) (both q s)

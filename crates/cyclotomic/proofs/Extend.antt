@@ -1,8 +1,8 @@
 -- Maps out of a ring with a square root adjoined, and out of ℤ[w].
 use Rattle.std.proofs.Common.{◌≡◌, ℕ, zero, suc, ◌+◌, negsuc, ◌+ℤ◌, sym, ap, ◌∙◌, ap₂, arith}
 use borrow.Author.Differences.{up, down, sum_is_lem, product_is}
-use Rattle.cyclotomic.specs.Ring.{Ops, CommLaws, RingLaws, Hom, wpow, root, rpow, exact, num}
-use Rattle.cyclotomic.specs.Adjoin.{adjoin, gauss, omegas, ints, extend, int_to, gauss_to, omega_to}
+use Rattle.cyclotomic.specs.Ring.{Ops, CommLaws, RingLaws, wpow, root, rpow, exact}
+use Rattle.cyclotomic.specs.Adjoin.{adjoin, gauss, omegas, ints}
 use Rattle.cyclotomic.specs.Sum.{sum_to}
 use Rattle.cyclotomic.specs.CommFacts
 use Rattle.cyclotomic.specs.CommFacts.{ring, units, negs}
@@ -10,6 +10,7 @@ use Rattle.cyclotomic.specs.AdjoinLaws.{gauss_laws}
 use Rattle.cyclotomic.proofs.Ints.{int_laws, omega-laws}
 use Rattle.cyclotomic.proofs.RingFacts
 use Rattle.cyclotomic.proofs.Sums
+use Rattle.cyclotomic.proofs.Maps.{Hom, extend, gauss_to, int_to, num, num_plus, num_times, omega_to}
 
 module _ {A B : Type 0} {o : Ops A} {p : Ops B} (from : CommLaws o) (to : CommLaws p) (h : A → B) (hom : Hom o p h) where
   pub nil-to : h o.nil ≡ p.nil
@@ -48,14 +49,14 @@ module _ {R : Type 0} {o : Ops R} (laws : CommLaws o) where
   int-hom = record {
     one_to = simp (int_to, units, negs, laws);
     plus_to = λ x y. CommFacts.differ laws _ _ _ _ (moved (up (x +ℤ y)) (down x) (down y) (down (x +ℤ y)) (up x) (up y) (sum_is_lem x y))
-        ∙ simp (int_to, CommFacts.num_plus, negs, ring, laws);
-    times_to = λ x y. simp (int_to, (product_is x y).0, (product_is x y).1, CommFacts.num_plus, CommFacts.num_times, negs, ring, laws);
+        ∙ simp (int_to, num_plus, negs, ring, laws);
+    times_to = λ x y. simp (int_to, (product_is x y).0, (product_is x y).1, num_plus, num_times, negs, ring, laws);
   }
     where
       moved : (a b c d e f : ℕ) → a + b + c ≡ d + e + f → o.plus (num o a) (num o (b + c)) ≡ o.plus (num o (e + f)) (num o d)
       moved a b c d e f h =
           let k : a + (b + c) ≡ e + f + d = omega arith in
-          sym (CommFacts.num_plus laws a (b + c)) ∙ ap (num o) k ∙ CommFacts.num_plus laws (e + f) d
+          sym (num_plus laws a (b + c)) ∙ ap (num o) k ∙ num_plus laws (e + f) d
 
 module _ {R : Type 0} {o : Ops R} (laws : RingLaws o) where
   open laws use {comm}

@@ -1,3 +1,4 @@
+pub mod Maps
 pub mod Ints
 pub mod RingFacts
 pub mod Sums

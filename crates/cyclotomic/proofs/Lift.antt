@@ -1,7 +1,7 @@
 -- A map of rings, coordinate by coordinate: the numbers of ℤ[w] modulo 2^64.
 use Rattle.std.proofs.Common.{◌≡◌, ℕ, ◌^◌, pos, negsuc, sym, ap, ◌∙◌, lit<}
-use Rattle.cyclotomic.specs.Ring.{Ops, CommLaws, Hom, wpow}
-use Rattle.cyclotomic.specs.Adjoin.{Pair, adjoin, gauss, Omega, omegas, ints, int_to}
+use Rattle.cyclotomic.specs.Ring.{Ops, CommLaws, wpow}
+use Rattle.cyclotomic.specs.Adjoin.{Pair, adjoin, gauss, Omega, omegas, ints}
 use Rattle.cyclotomic.specs.AdjoinLaws.{both, gauss_laws}
 use Rattle.cyclotomic.specs.CommFacts
 use Rattle.cyclotomic.specs.Modular.{Below, residues, Quad, quads}
@@ -10,6 +10,7 @@ use Rattle.cyclotomic.specs.Sum.{sum_to}
 use Rattle.cyclotomic.proofs.Extend.{nil-to, int-hom, sum-to-to, wpow-to}
 use Rattle.cyclotomic.proofs.Ints.{int_laws, omega-laws}
 use Rattle.cyclotomic.proofs.Sums
+use Rattle.cyclotomic.proofs.Maps.{Hom, int_to}
 
 abbrev pub each : {A B : Type 0} → (A → B) → Pair A → Pair B
 each h x = record { re = h x.re; im = h x.im }

@@ -1,7 +1,8 @@
 use Rattle.std.proofs.Common.{◌≡◌, ℕ, zero, suc, ◌+◌, ◌*◌, ◌/◌, ◌%◌, ◌^◌, sym, refl, ap, ◌∙◌, ap₂, suc-add, zero-add, arith}
-use Rattle.cyclotomic.specs.Ring.{Ops, RingLaws, wpow, root, two, rpow, exact, num}
+use Rattle.cyclotomic.specs.Ring.{Ops, RingLaws, wpow, root, two, rpow, exact}
 use Rattle.cyclotomic.specs.CommFacts.{nil_plus, one_times, plus_times, cancel, neg_times, neg_neg, middle, times_middle}
-use Rattle.cyclotomic.specs.CommFacts.{two_times, num_plus, plus_left_comm}
+use Rattle.cyclotomic.specs.CommFacts.{two_times, plus_left_comm}
+use Rattle.cyclotomic.proofs.Maps.{num, num_plus}
 
 module _ {R : Type 0} {o : Ops R} (laws : RingLaws o) where
   infixl 65 ◌⊕◌
@@ -75,9 +76,6 @@ module _ {R : Type 0} {o : Ops R} (laws : RingLaws o) where
 
   pub and-fourth : (x : R) → x ⊕ wpow o 4 ⊗ x ≡ nil
   and-fourth x = ap (λ s. x ⊕ s ⊗ x) wpow-four ∙ ap (◌⊕◌ x) (neg_times comm one x ∙ ap neg (one_times comm x)) ∙ plus_neg x
-
-  pub middle-8 : (a b c d e f g h : R) → ((a ⊕ b) ⊕ (c ⊕ d)) ⊕ ((e ⊕ f) ⊕ (g ⊕ h)) ≡ ((a ⊕ c) ⊕ (e ⊕ g)) ⊕ ((b ⊕ d) ⊕ (f ⊕ h))
-  middle-8 a b c d e f g h = simp (plus_assoc, plus_left_comm comm)
 
   wpow-opposite : (m : ℕ) → wpow o m ⊕ wpow o (m + 4) ≡ nil
   wpow-opposite m = ap (◌⊕◌ (wpow o m)) (wpow-mod _ (4 + m) (omega arith) ∙ wpow-four-more m) ∙ plus_neg (wpow o m)

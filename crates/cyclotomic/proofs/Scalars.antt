@@ -2,15 +2,14 @@
 use Rattle.std.proofs.Common.{◌≡◌, ℕ, zero, suc, ◌+◌, ◌*◌, ◌%◌, ◌^◌, ◌<◌, ℤ, pos, ◌+ℤ◌, sym, refl, ap, ◌∙◌, ap₂, arith, lit<}
 use native.Mathlib.Nat.{pow-le-pow_right}
 use borrow.Author.Differences.{up, down, ints}
-use lib.IntN.{ℤ_discrete}
-use Rattle.cyclotomic.specs.AdjoinLaws.{pair_discrete}
-use Rattle.cyclotomic.specs.Ring.{wpow, root, rpow, exact, num}
+use Rattle.cyclotomic.specs.Ring.{wpow, root, rpow, exact}
 use Rattle.cyclotomic.specs.Adjoin.{Pair, Omega, omegas, conj}
 use Rattle.cyclotomic.specs.Adjoin
 use Rattle.cyclotomic.specs.CommFacts
 use Rattle.cyclotomic.proofs.RingFacts
 use Rattle.cyclotomic.proofs.Ints.{int_laws, omega-laws}
 use Rattle.cyclotomic.proofs.Conj.{conj-hom, conj-wpow, conj-root, four}
+use Rattle.cyclotomic.proofs.Maps.{num}
 
 abbrev bar : Omega → Omega
 bar = conj Adjoin.ints
@@ -90,6 +89,3 @@ exact_same p m q n h =
       wpow-same m n
           (RingFacts.rpow-same omega-laws double-same p (wpow omegas m) (wpow omegas n) (h ∙ ap (λ k. exact omegas k n) (sym e))),
     )
-
-pub omega-discrete : Discrete Omega
-omega-discrete = pair_discrete (pair_discrete ℤ_discrete)

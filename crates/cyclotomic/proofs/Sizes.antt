@@ -3,14 +3,15 @@ use Rattle.std.proofs.Common.{◌≡◌, ℕ, zero, suc, ◌+◌, ◌-◌, ◌%�
 use borrow.Author.Differences.{up, down, sum_is_lem}
 use mir.Facts.{to_z_pos}
 use Rattle.std.proofs.lemmas.Bool.{and_parts, leb-true}
-use Rattle.cyclotomic.specs.Adjoin.{Omega, omegas, int_to}
-use Rattle.cyclotomic.specs.Ring.{wpow, num}
+use Rattle.cyclotomic.specs.Adjoin.{Omega, omegas}
+use Rattle.cyclotomic.specs.Ring.{wpow}
 use Rattle.cyclotomic.specs.Signed.{signed, Sized}
 use Rattle.cyclotomic.specs.Sum.{sum_to}
 use Rattle.cyclotomic.proofs.Conj.{four}
 use Rattle.cyclotomic.proofs.Ints.{omega-laws}
 use Rattle.cyclotomic.proofs.Lift.{words, modulo}
 use Rattle.cyclotomic.proofs.RingFacts
+use Rattle.cyclotomic.proofs.Maps.{int_to, num}
 
 sum-size : (a b : ℤ) (n m : ℕ) → nat_abs a ≤ n → nat_abs b ≤ m → nat_abs (a +ℤ b) ≤ n + m
 sum-size a b n m h l = size (a +ℤ b) (n + m) (let s = sum_is_lem a b in let x = out a n h in let y = out b m l in omega arith)

@@ -1,9 +1,17 @@
 use Rattle.std.proofs.Common.{◌≡◌, ℕ, zero, suc, ◌+◌, ◌*◌, ◌<◌, Bool, true, false, eqb, sym, refl, ap, ◌∙◌, ap₂, add-zero, add-suc, suc-mul, zero-mul, arith, eq-eqb, ne_eqb}
 use native.Mathlib.Decide.{ℕ_discrete}
 use borrow.Author.Tests.{clash}
-use Rattle.cyclotomic.specs.Ring.{Ops, CommLaws, num}
-use Rattle.cyclotomic.specs.Sum.{sum_to, only, Onto}
+use Rattle.cyclotomic.specs.Ring.{Ops, CommLaws}
+use Rattle.cyclotomic.specs.Sum.{sum_to, only}
 use Rattle.cyclotomic.specs.CommFacts
+use Rattle.cyclotomic.proofs.Maps.{num}
+
+-- φ takes the numbers below m, one to one, to those below n at which P holds
+pub record Onto (φ : ℕ → ℕ) (m n : ℕ) (P : ℕ → Bool) : Type 0 where
+  pub into : (z : ℕ) → z < m → φ z < n
+  pub holds : (z : ℕ) → z < m → P (φ z) ≡ true
+  pub apart : (z y : ℕ) → z < m → y < m → φ z ≡ φ y → z ≡ y
+  pub meets : (c : ℕ) → c < n → P c ≡ true → (z : ℕ) × (z < m) × (φ z ≡ c)
 
 module _ {R : Type 0} {o : Ops R} (laws : CommLaws o) where
   infixl 65 ◌⊕◌
@@ -60,19 +68,8 @@ module _ {R : Type 0} {o : Ops R} (laws : CommLaws o) where
   sum-blocks f zero m = rw zero-mul refl
   sum-blocks f (suc n) m = rw suc-mul (sum-split f (n * m) m ∙ ap (λ s. s ⊕ sum_to o (λ b. f (n * m + b)) m) (sum-blocks f n m))
 
-  pub only-times : (b : Bool) (x : R) → only o b x ≡ only o b one ⊗ x
-  only-times true x = sym (CommFacts.one_times laws x)
-  only-times false x = sym (CommFacts.nil_times laws x)
-
   pub delta : (f : ℕ → R) (n z : ℕ) → z < n → sum_to o (λ y. only o (eqb y z) (f y)) n ≡ f z
   delta f n z l = sum_one _ n z l (λ c k d. ap (λ b. only o b (f c)) (ne_eqb c z d)) ∙ ap (λ b. only o b (f z)) (eq-eqb z z refl)
-
-  -- the terms by the value of g
-  pub fibres : (g : ℕ → ℕ) (n m : ℕ) (f : ℕ → R) → ((c : ℕ) → c < n → g c < m) → sum_to o f n
-      ≡ sum_to o (λ k. sum_to o (λ c. only o (eqb k (g c)) (f c)) n) m
-  fibres g n m f into =
-      sum_same _ _ n (λ c l. sym (delta (λ k. f c) m (g c) (into c l)))
-      ∙ sum-swap (λ c k. only o (eqb k (g c)) (f c)) n m
 
   -- the terms at φ z are the terms at which P holds
   pub reindex : (φ : ℕ → ℕ) (m n : ℕ) (P : ℕ → Bool) (f : ℕ → R) → Onto φ m n P → sum_to o (λ z. f (φ z)) m

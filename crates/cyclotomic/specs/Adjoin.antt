@@ -1,7 +1,6 @@
 -- The ring R with a square root of s: pairs (a, b) for a + b √s. w is that root.
-use borrow.Author.Differences.{up, down}
 use Rattle.std.specs.Prelude.{ℤ, pos, ◌+ℤ◌, ◌*ℤ◌, neg_ℤ}
-use Rattle.cyclotomic.specs.Ring.{Ops, num}
+use Rattle.cyclotomic.specs.Ring.{Ops}
 
 pub record Pair (R : Type 0) : Type 0 where
   pub re : R
@@ -44,17 +43,3 @@ Omega = Pair (Pair ℤ)
 
 unfoldable pub omegas : Ops Omega
 omegas = tower ints
-
--- a + b √s goes to h a + h b t
-abbrev pub extend : {A B : Type 0} → Ops B → (A → B) → B → Pair A → B
-extend p h t x = p.plus (h x.re) (p.times (h x.im) t)
-
-abbrev pub int_to : {R : Type 0} → Ops R → ℤ → R
-int_to o z = o.plus (num o (up z)) (o.neg (num o (down z)))
-
-abbrev pub gauss_to : {R : Type 0} → Ops R → Pair ℤ → R
-gauss_to o = extend o (int_to o) (o.times o.w o.w)
-
--- a0 + a1 w + a2 w^2 + a3 w^3, in any ring with w
-abbrev pub omega_to : {R : Type 0} → Ops R → Omega → R
-omega_to o = extend o (gauss_to o) o.w

@@ -1,6 +1,6 @@
-use Rattle.std.specs.Prelude.{◌≡◌, ℕ, zero, suc, ◌+◌, ◌*◌}
-use Rattle.std.proofs.Common.{sym, ap, ap₂, ◌∙◌, zero-add, suc-add, zero-mul, suc-mul}
-use Rattle.cyclotomic.specs.Ring.{Ops, CommLaws, two, num}
+use Rattle.std.specs.Prelude.{◌≡◌}
+use Rattle.std.proofs.Common.{sym, ap, ap₂, ◌∙◌}
+use Rattle.cyclotomic.specs.Ring.{Ops, CommLaws, two}
 
 module _ {R : Type 0} {o : Ops R} (laws : CommLaws o) where
   infixl 65 ◌⊕◌
@@ -86,15 +86,6 @@ module _ {R : Type 0} {o : Ops R} (laws : CommLaws o) where
 
   pub two_times : (x : R) → two o ⊗ x ≡ x ⊕ x
   two_times x = plus_times one one x ∙ ap₂ ◌⊕◌ (one_times x) (one_times x)
-
-  pub num_plus : (a b : ℕ) → num o (a + b) ≡ num o a ⊕ num o b
-  num_plus zero b = rw zero-add (sym (nil_plus (num o b)))
-  num_plus (suc a) b = rw suc-add (ap (◌⊕◌ one) (num_plus a b) ∙ sym (plus_assoc one (num o a) (num o b)))
-
-  pub num_times : (a b : ℕ) → num o (a * b) ≡ num o a ⊗ num o b
-  num_times zero b = rw zero-mul (sym (nil_times (num o b)))
-  num_times (suc a) b = rw suc-mul (num_plus (a * b) b ∙ plus_comm _ _ ∙ ap₂ ◌⊕◌ (sym (one_times (num o b))) (num_times a b)
-      ∙ sym (plus_times one (num o a) (num o b)))
 
   -- equal differences
   pub differ : (x y z u : R) → x ⊕ u ≡ z ⊕ y → x ⊕ neg y ≡ z ⊕ neg u

@@ -46,14 +46,3 @@ rpow o = power o (root o)
 -- the scalar r^p w^m
 abbrev pub exact : {R : Type 0} → Ops R → ℕ → ℕ → R
 exact o p m = o.times (rpow o p) (wpow o m)
-
--- n times 1
-abbrev pub num : {R : Type 0} → Ops R → ℕ → R
-num o zero = o.nil
-num o (suc n) = o.plus o.one (num o n)
-
--- h respects the operations
-pub record Hom {A B : Type 0} (o : Ops A) (p : Ops B) (h : A → B) : Type 0 where
-  pub one_to : h o.one ≡ p.one
-  pub plus_to : (x y : A) → h (o.plus x y) ≡ p.plus (h x) (h y)
-  pub times_to : (x y : A) → h (o.times x y) ≡ p.times (h x) (h y)

@@ -10,10 +10,3 @@ sum_to o f (suc n) = o.plus (sum_to o f n) (f n)
 abbrev pub only : {R : Type 0} → Ops R → Bool → R → R
 only o true x = x
 only o false x = o.nil
-
--- φ takes the numbers below m, one to one, to those below n at which P holds
-pub record Onto (φ : ℕ → ℕ) (m n : ℕ) (P : ℕ → Bool) : Type 0 where
-  pub into : (z : ℕ) → z < m → φ z < n
-  pub holds : (z : ℕ) → z < m → P (φ z) ≡ true
-  pub apart : (z y : ℕ) → z < m → y < m → φ z ≡ φ y → z ≡ y
-  pub meets : (c : ℕ) → c < n → P c ≡ true → (z : ℕ) × (z < m) × (φ z ≡ c)

@@ -71,9 +71,6 @@ turn_two = digit₃ (Turn 2 1) refl refl refl refl refl refl refl refl
 pub turn-four : Turns 4 0
 turn-four = digit₃ (Turn 4 0) refl refl refl refl refl refl refl refl
 
-pub turn-six : Turns 6 1
-turn-six = digit₃ (Turn 6 1) refl refl refl refl refl refl refl refl
-
 reduce : (x p u : ℕ) → u < 2 → (x + u * p) % 2 ≡ (x + u * (p % 2)) % 2
 reduce x p = digit (λ u. (x + u * p) % 2 ≡ (x + u * (p % 2)) % 2) (omega arith) (omega arith)
 

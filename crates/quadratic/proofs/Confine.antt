@@ -1,17 +1,29 @@
 -- Strings that agree with a space at more and more positions.
-use Rattle.std.proofs.Common.{◌≡◌, ℕ, ◌+◌, ◌^◌, ◌<◌, ◌≤◌, Some, None, Option, sym, refl, ap, ◌∙◌, subst, lt_of_lt_of_le, lt_of_le_of_lt, mod-eq_of_lt, add-one, arith, pow_mono}
+use Rattle.std.proofs.Common.{◌≡◌, count_ones, ℕ, ◌+◌, ◌^◌, ◌<◌, ◌≤◌, Some, None, Option, sym, refl, ap, ◌∙◌, subst, lt_of_lt_of_le, lt_of_le_of_lt, mod-eq_of_lt, add-one, arith, pow_mono}
 use native.Mathlib.Decide.{ℕ_discrete, dec_lt}
 use lib.Bits.{bit_and, xor_lt, and_le_r}
 use lib.Count.{ones}
 use Rattle.quadratic.specs.Bits.{bit, dot, sum}
 use Rattle.quadratic.specs.Echelon.{row, combination, reduced}
-use Rattle.quadratic.specs.Strings.{Member, Under, Half, Cut, Fallen, Agreeing, Both, Shared}
+use Rattle.quadratic.specs.Strings.{Member, Under, Half, Cut, Both, Shared}
 use Rattle.quadratic.specs.declared.affine.AffineSpace.{AffineSpace}
 use Rattle.quadratic.specs.declared.affine.Outcome.{Outcome}
 use Rattle.quadratic.specs.declared.affine.Outcome.TheVariants.{Unchanged, Empty, Restricted}
 use Rattle.quadratic.proofs.Bitlaws.{same_bits, bit_past, ones_low}
 use Rattle.quadratic.proofs.Distinct.{span-lt, pivots-same}
 use Rattle.quadratic.proofs.Laws.{facts, holds, member, member_is, red-clean, off-bit}
+
+-- at most one row of s goes for each position below i that is no pivot of t
+abbrev pub Fallen : AffineSpace → AffineSpace → AffineSpace → ℕ → Type 0
+Fallen s s' t i = count_ones s.pivots + sum (bit t.pivots) i ≤ count_ones s'.pivots + i
+
+-- s' has the strings of s that have below position i what t asks for, and past the last bit no row goes
+pub record Agreeing (s s' t : AffineSpace) (i : ℕ) : Type 0 where
+  pub old : (y : ℕ) → Member s' y → Member s y
+  pub agree : (y j : ℕ) → Member s' y → j < i → bit (reduced t.pivots (row t.rows) y) j ≡ bit t.shift j
+  pub kept : (y : ℕ) → Member s y → Member t y → Member s' y
+  pub fall : Fallen s s' t i
+  pub still : (n : ℕ) → n ≤ i → Under s n → Under t n → Fallen s s' t n
 
 -- what is left of a string of n bits, and the strings of a space of n bits, have n bits
 comb-under : (s : AffineSpace) (n y : ℕ) → s.pivots < 2 ^ n → combination (row s.rows) (bit_and y s.pivots) < 2 ^ n
@@ -125,9 +137,6 @@ module _ (s s' t : AffineSpace) (i : ℕ) (a : Agreeing s s' t i) where
 -- combinations of rows have 48 bits, and so have the strings of a space
 pub comb-lt : (s : AffineSpace) (y : ℕ) → combination (row s.rows) (bit_and y s.pivots) < 2 ^ 48
 comb-lt s y = comb-under s 48 y s.within
-
-pub member-lt : (s : AffineSpace) (y : ℕ) → Member s y → y < 2 ^ 48
-member-lt s y m = member-under s 48 y (s.within, s.inside) m
 
 -- what is in both is so either way round
 both-swap : (s s' t : AffineSpace) → Both s s' t → Both t s' s

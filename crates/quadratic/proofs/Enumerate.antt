@@ -7,7 +7,8 @@ use lib.Count.{ones}
 use lib.Pow.{high, low}
 use Rattle.std.proofs.lemmas.Bool.{eq-eqb, eqb-true}
 use Rattle.cyclotomic.specs.Ring.{Ops, CommLaws, wpow}
-use Rattle.cyclotomic.specs.Sum.{sum_to, only, Onto}
+use Rattle.cyclotomic.specs.Sum.{sum_to, only}
+use Rattle.cyclotomic.proofs.Sums.{Onto}
 use Rattle.cyclotomic.proofs.Sums
 use Rattle.quadratic.specs.Bits.{bit, sum}
 use Rattle.quadratic.specs.Echelon.{row, combination, reduced}

@@ -37,11 +37,6 @@ turned-some : (k x : ℕ) (a : Option ℕ) → turn k a ≡ Some x → (m : ℕ)
 turned-some k x (Some m) e = (m, refl, cc)
 turned-some k x None e = let z : ◌≡◌ {A = ℕ} 0 1 = cc in absurd (omega arith)
 
--- the same of one string and the next
-pub along-some : (s : PhasedSpace) (f z q l y m : ℕ) → Along s f z q l → phase s y ≡ Some m
-    → (m' : ℕ) × (phase s (bit_xor y f) ≡ Some m') × ((m' + 4 * dot z (bit_xor y f)) % 8 ≡ (m + (2 * q + 4 * dot l y)) % 8)
-along-some s f z q l y m h e = turned-some (4 * dot z (bit_xor y f)) _ (phase s (bit_xor y f)) (h y ∙ ap (turn (2 * q + 4 * dot l y)) e)
-
 -- ---- on the new side
 
 abbrev Across : ℕ → ℕ → ℕ → ℕ → ℕ → Type 0

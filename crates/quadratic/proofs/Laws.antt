@@ -177,9 +177,6 @@ module _ (P : ℕ) (R : ℕ → ℕ) (h : ℕ) (f : Facts P R h) where
   pub member_is : (y : ℕ) → reduced P R y ≡ h → y ≡ bit_xor h (combination R (bit_and y P))
   member_is y e = move y (combination R (bit_and y P)) h e
 
-  pub member-shift : (y c : ℕ) → c < 2 ^ 48 → reduced P R y ≡ h → reduced P R (bit_xor y (combination R c)) ≡ h
-  member-shift y c l e = red-linear y (combination R c) ∙ ap₂ bit_xor e (red-comb c l) ∙ xor_zero_r h
-
   -- each coordinate inside the pivots is taken once
   pub coordinate : (c : ℕ) → bit_and c P ≡ c → bit_and (bit_xor h (combination R c)) P ≡ c
   coordinate c e =

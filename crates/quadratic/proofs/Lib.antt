@@ -1,3 +1,4 @@
+pub mod Added
 pub mod Bitlaws
 pub mod Algebra
 pub mod Dots

@@ -168,13 +168,6 @@ module _ {R : Type 0} {o : Ops R} (laws : CommLaws o) where
             ]
       ]
 
-  -- with a variable off, and with it on
-  pub over-split : (f : ℕ → R) (mask a n c : ℕ) → bit mask a ≡ 1 → a < n
-      → over o f mask n c ≡ over o f (bit_xor mask (2 ^ a)) n c ⊕ over o f (bit_xor mask (2 ^ a)) n (bit_xor c (2 ^ a))
-  over-split f mask a n c on l =
-      over-out f mask a n c on l ∙ over-plus f (λ x. f (bit_xor x (2 ^ a))) (bit_xor mask (2 ^ a)) n c
-      ∙ ap (◌⊕◌ (over o f (bit_xor mask (2 ^ a)) n c)) (over-shift f (2 ^ a) (bit_xor mask (2 ^ a)) n c)
-
   -- even and odd numbers
   sum-pairs : (f : ℕ → R) (m : ℕ) → sum_to o f (m + m) ≡ sum_to o (λ c. f (c + c) ⊕ f (suc (c + c))) m
   sum-pairs f zero = refl

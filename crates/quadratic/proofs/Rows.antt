@@ -43,9 +43,6 @@ module _ (t t' : List ℕ) (rows mask : ℕ) (x : RowsXor t t' rows mask) where
   pub inside-xor : (n : ℕ) → mask < 2 ^ n → ((a : ℕ) → get_or t a 0 < 2 ^ n) → (a : ℕ) → get_or t' a 0 < 2 ^ n
   inside-xor n h l a = rw (x a) (xor_lt n (get_or t a 0) (bit rows a * mask) (l a) (pick-lt n (bit rows a) mask (bit-lt rows a) h))
 
-pub within48 : (dim mask : ℕ) → dim ≤ 48 → mask < 2 ^ dim → mask < 2 ^ 48
-within48 dim mask l h = lt_of_lt_of_le h (pow_mono {i = dim} {j = 48} l)
-
 -- ---- parities
 
 module _ (dim phase odd neg : ℕ) (t : List ℕ) (mask c : ℕ) (h : mask < 2 ^ dim) where

@@ -10,6 +10,5 @@ pub mod Building
 pub mod Meets
 pub mod Sums
 pub mod Running
-pub mod Table
 pub mod Moves
 pub mod Coordinates

@@ -47,18 +47,6 @@ pub record Doubled (s s' : AffineSpace) (f : ℕ) : Type 0 where
   pub old : (y : ℕ) → Member s y → Member s' y
   pub moved : (y : ℕ) → Member s (bit_xor y f) → Member s' y
 
--- at most one row of s goes for each position below i that is no pivot of t
-abbrev pub Fallen : AffineSpace → AffineSpace → AffineSpace → ℕ → Type 0
-Fallen s s' t i = count_ones s.pivots + sum (bit t.pivots) i ≤ count_ones s'.pivots + i
-
--- s' has the strings of s that have below position i what t asks for, and past the last bit no row goes
-pub record Agreeing (s s' t : AffineSpace) (i : ℕ) : Type 0 where
-  pub old : (y : ℕ) → Member s' y → Member s y
-  pub agree : (y j : ℕ) → Member s' y → j < i → bit (reduced t.pivots (row t.rows) y) j ≡ bit t.shift j
-  pub kept : (y : ℕ) → Member s y → Member t y → Member s' y
-  pub fall : Fallen s s' t i
-  pub still : (n : ℕ) → n ≤ i → Under s n → Under t n → Fallen s s' t n
-
 -- s' has the strings that are in s and in t, or there is none
 pub record Both (s s' t : AffineSpace) : Type 0 where
   pub first : (y : ℕ) → Member s' y → Member s y

@@ -188,10 +188,6 @@ module _ (t s : StabilizerState) where
     pub overlap-orthogonal : Orthogonal t s → x.0 ≡ 0
     overlap-orthogonal o = scaled-nil 8288 x is.kind floor (is.exact ∙ o)
 
-  -- two states have one overlap
-  pub overlap-unique : (x y : Triple) → IsOverlap t s x → IsOverlap t s y → x ≡ y
-  overlap-unique x y i j = scaled-same 8288 x y i.kind j.kind (floor x i) (floor y j) (i.exact ∙ sym j.exact)
-
   pub sizes-same : 0 ≡ sizes_number t s → t.qubits ≡ s.qubits
   sizes-same e =
       elim (ℕ_discrete t.qubits s.qubits) [

@@ -73,11 +73,6 @@ pub data Call : Type 0 where
   gate : ℕ → ℕ → ℕ → Call
   project : List ℕ → Call
 
--- the number with which a call is refused for what is handed in, whatever the state of n qubits holds; else 0
-abbrev pub input_number : ℕ → Call → ℕ
-input_number n (gate kind j l) = gate_number n kind j l
-input_number n (project text) = text_number n text
-
 -- a call on s answers the number a and leaves s'
 abbrev pub Step : Call → StabilizerState → ℕ → StabilizerState → Type 0
 Step (gate kind j l) s a s' = Gated kind j l s a s'

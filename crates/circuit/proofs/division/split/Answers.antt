@@ -1,4 +1,4 @@
-use Rattle.std.proofs.Common.{◌≡◌, cond, eqb, Err, sym, ap, ◌∙◌, subst, ap₂}
+use Rattle.std.proofs.Common.{◌≡◌, List, map, cond, eqb, Err, sym, ap, ◌∙◌, subst, ap₂}
 use Rattle.std.proofs.lemmas.List.{take_rest}
 use Rattle.std.proofs.lemmas.Result.{err_from_is_err_and}
 use Rattle.std.proofs.lemmas.Bool.{eq-eqb, cond-true}
@@ -6,12 +6,19 @@ use Rattle.cyclotomic.specs.Refusals.{answer_of}
 use Rattle.cyclotomic.specs.Scalars.{triple_of}
 use Rattle.stabilizer.specs.Overlaps.{sizes_number}
 use Rattle.stabilizer.specs.declared.state.StabilizerState.{StabilizerState}
-use Rattle.circuit.specs.Runs.{Worth}
+use Rattle.circuit.specs.Made.{call_of}
+use Rattle.circuit.specs.Runs.{Worth, OneValue}
+use Rattle.circuit.specs.declared.call.Call.{Call as Held}
+use Rattle.circuit.proofs.Dividing.{every-division}
 use Rattle.circuit.proofs.Walking.{comes-aside, comes-value, run-qubits}
 use Rattle.circuit.proofs.division.split.Goals as goal
 
 one_size : (t s : StabilizerState) → t.qubits ≡ s.qubits → 0 ≡ sizes_number t s
 one_size t s q = sym (cond-true _ 0 23 (eq-eqb _ _ q))
+
+-- whatever one call answers, all divisions that count have one value
+one_value : (calls : List Held) (s t : StabilizerState) → t.qubits ≡ s.qubits → OneValue (map call_of calls) s t
+one_value calls s t q = λ place d x w. every-division (map call_of calls) place s t q d x w
 
 pub returns-then-met : goal.returns-then-met
 returns-then-met c =
@@ -24,6 +31,7 @@ returns-then-met c =
           s t c.forward-first.new.state c.backward-second.new.state c.forward-first.result c.backward-second.result
           c.or-met.result c.forward-first.ensures (rw take_rest at c.backward-second.ensures) c.or-met.ensures.impossible
           c.or-met.ensures.exhausted c.if-met.true;
+      one_value = one_value c.args.calls.now s t;
     }
 
 pub returns-then-met-2 : goal.returns-then-met-2
@@ -42,6 +50,7 @@ returns-then-met-2 c =
           c.or-met.result c.forward-first.ensures (rw take_rest at c.backward-second.ensures) c.or-met.ensures.impossible
           c.or-met.ensures.exhausted x q c.if-met.false (subst (λ b. Worth b t' s' x) (sym c.if-met-2.true)
           c.zero.ensures);
+      one_value = one_value c.args.calls.now s t;
     }
 
 pub returns-in_err-overlap : goal.returns-in_err-overlap
@@ -52,6 +61,7 @@ returns-in_err-overlap c =
       number = ap answer_of e ∙ c.in_err-overlap.ensures.number
           ∙ ap₂ (λ a b. cond (eqb a b) 0 23) (run-qubits c.backward-second.ensures.run) (run-qubits c.forward-first.ensures.run);
       value = rw e tt;
+      one_value = one_value c.args.calls.now c.args.s.now c.args.t.now;
     }
 
 pub returns : goal.returns
@@ -70,4 +80,5 @@ returns c =
           c.or-met.result c.forward-first.ensures (rw take_rest at c.backward-second.ensures) c.or-met.ensures.impossible
           c.or-met.ensures.exhausted x q c.if-met.false
           (subst (λ b. Worth b t' s' x) (sym c.if-met-2.false) c.in_ok-overlap.ensures.value.is);
+      one_value = one_value c.args.calls.now s t;
     }

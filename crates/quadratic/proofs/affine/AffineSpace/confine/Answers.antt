@@ -1,8 +1,7 @@
 use Rattle.std.proofs.Common.{◌≡◌, ◌+◌, eqb, sym, ◌∙◌, subst, arith}
 use Rattle.quadratic.specs.Bits.{bit, flag}
 use Rattle.quadratic.specs.Echelon.{row}
-use Rattle.quadratic.specs.Strings.{Agreeing}
-use Rattle.quadratic.proofs.Confine.{agree-none, agree-pivot, agree-cut, agree-empty, agree-all}
+use Rattle.quadratic.proofs.Confine.{Agreeing, agree-none, agree-pivot, agree-cut, agree-empty, agree-all}
 use Rattle.quadratic.proofs.Laws.{tested}
 use Rattle.quadratic.proofs.Settle.{check-is}
 use Rattle.quadratic.proofs.affine.AffineSpace.confine.Goals as goal

@@ -1,4 +1,4 @@
-use Rattle.quadratic.specs.Strings.{Agreeing}
+use Rattle.quadratic.proofs.Confine.{Agreeing}
 use Rattle.quadratic.proofs.affine.AffineSpace.confine.Given as goal
 
 -- the strings of the space as it was that agree with the other space at the positions below i

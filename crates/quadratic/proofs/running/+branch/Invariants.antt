@@ -1,4 +1,0 @@
-use Rattle.quadratic.proofs.running.+branch.Given as goal
-
-abbrev pub decreases-branch : goal.decreases-branch
-decreases-branch g l = l.mask
