@@ -1,8 +1,20 @@
-use Rattle.std.proofs.Common.{◌≡◌, ℕ, zero, suc, ◌+◌, ◌*◌, ◌/◌, ◌%◌, ◌^◌, sym, refl, ap, ◌∙◌, ap₂, suc-add, zero-add, arith}
+use Rattle.std.proofs.Common.{◌≡◌, ℕ, zero, suc, ◌+◌, ◌*◌, ◌/◌, ◌%◌, ◌^◌, ◌<◌, sym, refl, ap, ◌∙◌, ap₂, suc-add, zero-add, arith}
 use Rattle.cyclotomic.specs.Ring.{Ops, RingLaws, wpow, root, two, rpow, exact}
 use Rattle.cyclotomic.specs.CommFacts.{nil_plus, one_times, plus_times, cancel, neg_times, neg_neg, middle, times_middle}
 use Rattle.cyclotomic.specs.CommFacts.{two_times, plus_left_comm}
 use Rattle.cyclotomic.proofs.Maps.{num, num_plus}
+
+-- what holds at 0 to 7 holds below 8
+pub below-eight : (P : ℕ → Type 0) → P 0 → P 1 → P 2 → P 3 → P 4 → P 5 → P 6 → P 7 → (m : ℕ) → m < 8 → P m
+below-eight P a b c d e f g h zero l = a
+below-eight P a b c d e f g h (suc zero) l = b
+below-eight P a b c d e f g h (suc (suc zero)) l = c
+below-eight P a b c d e f g h (suc (suc (suc zero))) l = d
+below-eight P a b c d e f g h (suc (suc (suc (suc zero)))) l = e
+below-eight P a b c d e f g h (suc (suc (suc (suc (suc zero))))) l = f
+below-eight P a b c d e f g h (suc (suc (suc (suc (suc (suc zero)))))) l = g
+below-eight P a b c d e f g h (suc (suc (suc (suc (suc (suc (suc zero))))))) l = h
+below-eight P a b c d e f g h (suc (suc (suc (suc (suc (suc (suc (suc m)))))))) l = absurd (omega arith)
 
 module _ {R : Type 0} {o : Ops R} (laws : RingLaws o) where
   infixl 65 ◌⊕◌

@@ -42,15 +42,7 @@ turns z = up z.im.re + 2 * up z.re.im + 3 * up z.im.im + 4 * down z.re.re + 5 * 
 
 turns-wpow : (m : ℕ) → m < 8 → turns (wpow omegas m) ≡ m
 unfolding turns omegas
-turns-wpow zero h = refl
-turns-wpow (suc zero) h = refl
-turns-wpow (suc (suc zero)) h = refl
-turns-wpow (suc (suc (suc zero))) h = refl
-turns-wpow (suc (suc (suc (suc zero)))) h = refl
-turns-wpow (suc (suc (suc (suc (suc zero))))) h = refl
-turns-wpow (suc (suc (suc (suc (suc (suc zero)))))) h = refl
-turns-wpow (suc (suc (suc (suc (suc (suc (suc zero))))))) h = refl
-turns-wpow (suc (suc (suc (suc (suc (suc (suc (suc m)))))))) h = absurd (omega arith)
+turns-wpow = RingFacts.below-eight (λ m. turns (wpow omegas m) ≡ m) refl refl refl refl refl refl refl refl
 
 pub wpow-same : (m n : ℕ) → wpow omegas m ≡ wpow omegas n → m % 8 ≡ n % 8
 wpow-same m n h = sym (turns-wpow (m % 8) (omega arith))

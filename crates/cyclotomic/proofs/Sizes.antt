@@ -47,15 +47,7 @@ sized-checked z e =
 
 power-checked : (m : ℕ) → m < 8 → checked (wpow omegas m) ≡ true
 unfolding checked omegas
-power-checked zero h = refl
-power-checked (suc zero) h = refl
-power-checked (suc (suc zero)) h = refl
-power-checked (suc (suc (suc zero))) h = refl
-power-checked (suc (suc (suc (suc zero)))) h = refl
-power-checked (suc (suc (suc (suc (suc zero))))) h = refl
-power-checked (suc (suc (suc (suc (suc (suc zero)))))) h = refl
-power-checked (suc (suc (suc (suc (suc (suc (suc zero))))))) h = refl
-power-checked (suc (suc (suc (suc (suc (suc (suc (suc m)))))))) h = absurd (omega arith)
+power-checked = RingFacts.below-eight (λ m. checked (wpow omegas m) ≡ true) refl refl refl refl refl refl refl refl
 
 sized-power : (m : ℕ) → Sized 1 (wpow omegas m)
 sized-power m = subst (Sized 1) (sym (RingFacts.wpow-least omega-laws m)) (sized-checked _ (power-checked (m % 8) (omega arith)))
