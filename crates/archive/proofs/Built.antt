@@ -150,7 +150,8 @@ parts-sound b p n k l s good e w = record {
 }
 
 -- the state that the parts make stands in the bits
-pub held : (b : List ℕ) (p n k l : ℕ) (t : PhasedSpace) (s : StabilizerState) → n ≡ size_at b p → k ≡ rank_at b p → l ≡ bits_from b (p + 12) 13
+pub held : (b : List ℕ) (p n k l : ℕ) (t : PhasedSpace) (s : StabilizerState) → n ≡ size_at b p → k ≡ rank_at b p
+    → l ≡ bits_from b (p + 12) 13
     → Spans b p n k t → Weighs b p n k t → s.qubits ≡ n → s.loss ≡ l → s.body ≡ t → Holds b p s
 held b p n k l t s en ek el w v eq es et = record {
   qubits = eq ∙ en;

@@ -25,7 +25,8 @@ module _ (b b' : List ℕ) (to : ℕ) (same : Agree b b' to) (n k : ℕ) where
       shift = keep b b' to (28 + k * n) n same (omega arith) ∙ r.shift;
     }
 
-    pub linear-kept : linear_place 0 n k k ≤ to → ((a : ℕ) → a < k → 2 * bits_from b (linear_place 0 n k a) 2 ≡ coefficient_at s (get_or leads a 0))
+    pub linear-kept : linear_place 0 n k k ≤ to → ((a : ℕ) → a < k
+        → 2 * bits_from b (linear_place 0 n k a) 2 ≡ coefficient_at s (get_or leads a 0))
         → (a : ℕ) → a < k → 2 * bits_from b' (linear_place 0 n k a) 2 ≡ coefficient_at s (get_or leads a 0)
     linear-kept l f a i = ap (λ t. 2 * t) (keep b b' to (linear_place 0 n k a) 2 same (omega arith)) ∙ f a i
 

@@ -97,7 +97,8 @@ module _ (b d : List ℕ) (n k : ℕ) (good : Sound b 0 n k) (fine : Sound d 0 n
       let field : bits_from b (place_of_coupling 0 n k a c) 1 ≡ bits_from d (place_of_coupling 0 n k a c) 1 =
       quarter _ _ (sym (x.coupling a c (omega arith) (omega arith)) ∙ ap₂ (coupling_between s) (same-lead a l) (same-lead c (omega arith))
       ∙ y.coupling a c (omega arith) (omega arith)) in
-      rw at (further b d q 1 (row_same a l e m (omega arith)) (ap (λ t. bits_from b t 1) (sym place) ∙ field ∙ ap (λ t. bits_from d t 1) place))
+      rw at (further b d q 1 (row_same a l e m (omega arith)) (ap (λ t. bits_from b t 1) (sym place) ∙ field
+      ∙ ap (λ t. bits_from d t 1) place))
     where
       quarter : (i j : ℕ) → 4 * i ≡ 4 * j → i ≡ j
       quarter i j e = omega arith

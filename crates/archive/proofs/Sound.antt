@@ -115,7 +115,8 @@ module _ (b : List ℕ) (p n k : ℕ) (s : Sound b p n k) where
       let h : (a + 1) * n ≤ k * n = mul-le-mul_right n (omega arith) in
       (omega (arith, s.long), mul-le a n 48 48 (omega (arith, s.few, s.fewer)) s.few)
 
-  pub couplings-there : (a c : ℕ) → a < c → c < k → (place_of_coupling p n k a c + 1 ≤ 8 * length b) × (place_of_coupling p n k a c ≤ p + 4096)
+  pub couplings-there : (a c : ℕ) → a < c → c < k
+      → (place_of_coupling p n k a c + 1 ≤ 8 * length b) × (place_of_coupling p n k a c ≤ p + 4096)
   couplings-there a c l h =
       let w = pairs-within k a c l h in
       let f = few k n s.fewer s.few in

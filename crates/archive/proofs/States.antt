@@ -51,7 +51,8 @@ no-states b i = refl
 
 -- one state more
 module _ (b : List ℕ) (i m p : ℕ) (at : p ≡ place_after b i) where
-  one_more : (o : Option StateFault) → state_fault b p ≡ o → states_fault b i (suc m) ≡ or_else (carried (i + 1) o) (states_fault b (i + 1) m)
+  one_more : (o : Option StateFault) → state_fault b p ≡ o
+      → states_fault b i (suc m) ≡ or_else (carried (i + 1) o) (states_fault b (i + 1) m)
   unfolding states_fault state_fault first_fault
   one_more o e =
       let fields = verdicts b (place_after b i) (parts_at b (place_after b i)) in

@@ -32,7 +32,8 @@ module _ (b : List ℕ) (p n k : ℕ) (good : Sound b p n k) where
     other j m ne =
         let x = lead (row_at b p n j) in
         let off = bit-pow-other x q (λ e. lead-apart j a m l ne (sym e ∙ eq)) in
-        g.linear x (lead-48 j m) ∙ ap (λ t. (coefficient_at s x + 2 * v * t) % 8) off ∙ ap (λ t. (coefficient_at s x + t) % 8) (mul-zero (2 * v))
+        g.linear x (lead-48 j m) ∙ ap (λ t. (coefficient_at s x + 2 * v * t) % 8) off
+        ∙ ap (λ t. (coefficient_at s x + t) % 8) (mul-zero (2 * v))
         ∙ ap (λ t. t % 8) (add-zero (coefficient_at s x)) ∙ mod-eq_of_lt (coef-low s.form x)
 
     here : coefficient_at s' (lead (row_at b p n a)) ≡ 2 * bits_from b (linear_place p n k a) 2

@@ -33,7 +33,8 @@ module _ (b : List ℕ) (p n k : ℕ) (en : n ≡ size_at b p) (ek : k ≡ rank_
         abbrev q : ℕ
         q = p + 28 + k * n + n
 
-        pub after-shift : state_fault b p ≡ first_fault b q (copies k linear ++ (copies (pairs k) coupling ++ fill (p + bits_before_fill n k) ∷ []))
+        pub after-shift : state_fault b p
+            ≡ first_fault b q (copies k linear ++ (copies (pairs k) coupling ++ fill (p + bits_before_fill n k) ∷ []))
         after-shift = after-all-rows ∙ passes b (p + 28 + k * n) (shift b p n k ∷ []) _ s q refl
 
         module _ (l : first_fault b q (copies k linear) ≡ None) where

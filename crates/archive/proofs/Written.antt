@@ -107,7 +107,8 @@ module _ (b : List ℕ) (s : StabilizerState) (k : ℕ) (leads : List ℕ) (ek :
       ap₂ bit (r.rows j (omega arith)) (lead-at a l)
       ∙ other-bit space (at j) (fall.on j (omega arith)) (at a) (fall.on a l) (omega arith))
 
-  pub sound : padded (0 + bits_before_fill n k) ≤ 8 * length b → bits_from b (0 + bits_before_fill n k) (padding (0 + bits_before_fill n k)) ≡ 0 → Sound b 0 n k
+  pub sound : padded (0 + bits_before_fill n k) ≤ 8 * length b
+      → bits_from b (0 + bits_before_fill n k) (padding (0 + bits_before_fill n k)) ≡ 0 → Sound b 0 n k
   sound long zeros = record {
     some = s.some;
     few = s.few;
@@ -132,10 +133,12 @@ module _ (b : List ℕ) (s : StabilizerState) (k : ℕ) (leads : List ℕ) (ek :
   weighs = record {
     phase = sym h.phased;
     linear = λ a l. ap (coefficient_at s.body) (lead-at a l) ∙ sym (f.linear a l);
-    coupling = λ a c l m. ap₂ (coupling_between s.body) (lead-at a (omega arith)) (lead-at c m) ∙ ap (λ t. 4 * t) (sym (f.coupling a c l m));
+    coupling = λ a c l m. ap₂ (coupling_between s.body) (lead-at a (omega arith)) (lead-at c m)
+        ∙ ap (λ t. 4 * t) (sym (f.coupling a c l m));
   }
 
-  pub written : 8 * length b ≡ padded (bits_before_fill n k) → bits_from b (bits_before_fill n k) (padding (bits_before_fill n k)) ≡ 0 → (alone_fault b ≡ None)
+  pub written : 8 * length b ≡ padded (bits_before_fill n k)
+      → bits_from b (bits_before_fill n k) (padding (bits_before_fill n k)) ≡ 0 → (alone_fault b ≡ None)
       × Holds b 0 s
   written long zeros =
       let here : 0 + bits_before_fill n k ≡ bits_before_fill n k = zero-add (bits_before_fill n k) in

@@ -36,7 +36,8 @@ among-more a b xs before after e f =
     or-none false = refl
 
 -- one call more
-pub walked_more : (calls : List Call) (c : Call) (s s' s'' : StabilizerState) (met met' : Met) (a : ℕ) → Ran calls s met s' → Step c s' a s''
+pub walked_more : (calls : List Call) (c : Call) (s s' s'' : StabilizerState) (met met' : Met) (a : ℕ) → Ran calls s met s'
+    → Step c s' a s''
     → met'.impossible ≡ met.impossible || eqb a 21 → met'.exhausted ≡ met.exhausted || eqb a 22 → Ran (calls ++ (c ∷ [])) s met' s''
 walked_more calls c s s' s'' met met' a h step i e = record {
   answers = h.answers ++ (a ∷ []);

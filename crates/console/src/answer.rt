@@ -56,7 +56,11 @@ pub struct Reply<'a> {
 }
 
 const HELP: &str =
-    "open STATE N | read STATE HEX | take STATE HEX I | write STATE | write STATE HEX | fields STATE | amplitude STATE NUMBER | gate STATE KIND J L | project STATE TEXT | split PLACE CALLS | overlap | same | intersect | sum | coordinates | total RING N | embed RING E P M | check HEX | view HEX I | host HEX HEX HEX | help; STATE: s or t; RING: mod17 or quad; HEX: pairs of digits, - for none; TEXT: a sign and a letter for each qubit, or x:HEX; CALLS: g:KIND:J:L and p:TEXT with ; between, - for none";
+    "open STATE N | read STATE HEX | take STATE HEX I | write STATE | write STATE HEX | fields STATE | amplitude \
+     STATE NUMBER | gate STATE KIND J L | project STATE TEXT | split PLACE CALLS | overlap | same | intersect | sum | \
+     coordinates | total RING N | embed RING E P M | check HEX | view HEX I | host HEX HEX HEX | help; STATE: s or t; \
+     RING: mod17 or quad; HEX: pairs of digits, - for none; TEXT: a sign and a letter for each qubit, or x:HEX; CALLS: \
+     g:KIND:J:L and p:TEXT with ; between, - for none";
 
 impl fmt::Display for Reply<'_> {
     fn fmt<W: fmt::Write>(&self, f: &mut fmt::Formatter<W>) -> fmt::Result {

@@ -33,7 +33,8 @@ pub fn root<R: Ring>() -> R
 
 // The scalar as a value of the ring: the ring's zero, or root^power · omega^turn.
 pub fn embed<R: Ring>(x: Scalar) -> Result<R, Refusal>
-    ensures { MatchResult result (λ v. (Negative (triple_of x) → ⊥) × (R.value v ≡ embedded R.ops (triple_of x))) (λ e. Negative (triple_of x) × (number_of e ≡ 25)) }
+    ensures { MatchResult result (λ v. (Negative (triple_of x)
+        → ⊥) × (R.value v ≡ embedded R.ops (triple_of x))) (λ e. Negative (triple_of x) × (number_of e ≡ 25)) }
 {
     if x.power() < 0 {
         return Err(Refusal::NegativePower);

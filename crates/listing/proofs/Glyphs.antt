@@ -22,7 +22,8 @@ glyphs-front f xs n m e h each =
     ext_get_or 0 (take n xs) (glyphs f 0 n) (size ∙ sym (length-glyphs f 0 n))
     (λ k lt.
     let below : k < n = omega (arith, size) in
-    get_or-take n xs k 0 below ∙ (each k (omega arith) ∙ (ap (λ (z : ℕ). glyph_of (f z)) (sym (zero-add k)) ∙ sym (glyphs-at f 0 n k below))))
+    get_or-take n xs k 0 below ∙ (each k (omega arith) ∙ (ap (λ (z : ℕ). glyph_of (f z)) (sym (zero-add k))
+        ∙ sym (glyphs-at f 0 n k below))))
 
 -- the same bytes were written
 pub same-put : {W : Type 0} {took : W → List ℕ → W → Type 0} {f g : Formatter W} {bs cs : List ℕ} → bs ≡ cs

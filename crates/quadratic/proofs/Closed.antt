@@ -29,7 +29,11 @@ sum_fits (Space s) x b n = go x.epsilon refl
 
 -- an exponential sum is 0 exactly where the sum over all strings is
 pub vanishing : (i : Intersection) (x : Scalar) → Bounded i x → embedded omegas (triple_of x) ≡ total omegas i → Vanishing i x
-vanishing i x b e = record { vanishes = λ z. sym e ∙ ap (λ a. chosen omegas a x.power x.turn) z; only = λ n. go x.epsilon refl (power i b) n }
+vanishing i x b e = record {
+  vanishes = λ z. sym e
+      ∙ ap (λ a. chosen omegas a x.power x.turn) z;
+  only = λ n. go x.epsilon refl (power i b) n;
+}
   where
     power : (i : Intersection) → Bounded i x → x.epsilon ≡ 1 → (p : ℕ) × (x.power ≡ pos p)
     power Empty b one = let z : ◌≡◌ {A = ℕ} 0 1 = sym (ap (λ t. t.0) b) ∙ one in absurd (omega arith)

@@ -86,7 +86,8 @@ module _ (f : QuadraticForm) (live a b : ℕ) (inside : live < 2 ^ 48) (on : bit
 
   pub pair_left : (f₁ f₂ f₃ f' : QuadraticForm) (d d' p q r power : ℕ) → d ≡ coef f.odd f.neg a → d' ≡ coef f.odd f.neg b
       → p ≡ get_or f.coupling a 0 → q ≡ get_or f.coupling b 0 → r ≡ bit_xor (bit_xor live (2 ^ a)) (2 ^ b)
-      → ((c : ℕ) → value_at f₁ c ≡ (value_at f c + bit_and d d') % 8) → ((c : ℕ) → value_at f₂ c ≡ (value_at f₁ c + d * dot (bit_and q r) c) % 8)
+      → ((c : ℕ) → value_at f₁ c ≡ (value_at f c + bit_and d d') % 8) → ((c : ℕ)
+      → value_at f₂ c ≡ (value_at f₁ c + d * dot (bit_and q r) c) % 8)
       → ((c : ℕ) → value_at f₃ c ≡ (value_at f₂ c + d' * dot (bit_and p r) c) % 8)
       → ((c : ℕ) → value_at f' c ≡ (value_at f₃ c + 4 * (dot (bit_and p r) c * dot (bit_and q r) c)) % 8)
       → left_of omegas f' r (power + 2) ≡ left_of omegas f live power

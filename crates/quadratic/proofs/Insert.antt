@@ -152,7 +152,8 @@ module _ (P : ℕ) (R : ℕ → ℕ) (h : ℕ) (f : Facts P R h) (g p : ℕ) (to
       digit₂ (λ a b. bit_xor r (a * g) ≡ bit_xor h (b * g) → (r ≡ h) ⊎ (reduced P R (bit_xor y g) ≡ h)) (λ e. inl (cancel r h (0 * g) e))
       (λ e. inr (sym w ∙ ap (λ x. bit_xor x g) (sym (xor_zero_r r) ∙ ap (bit_xor r) (sym (zero-mul g)) ∙ e ∙ ap (bit_xor h) (one-mul g))
       ∙ back h g))
-      (λ e. inr (sym w ∙ ap (bit_xor r) (sym (one-mul g)) ∙ e ∙ ap (bit_xor h) (zero-mul g) ∙ xor_zero_r h)) (λ e. inl (cancel r h (1 * g) e))
+      (λ e. inr (sym w ∙ ap (bit_xor r) (sym (one-mul g)) ∙ e ∙ ap (bit_xor h) (zero-mul g)
+      ∙ xor_zero_r h)) (λ e. inl (cancel r h (1 * g) e))
       (bit r p) (bit h p) (bit-lt r p) (bit-lt h p) (sym (red-new y) ∙ e)
 
   pub law-old : (y : ℕ) → reduced P R y ≡ h → reduced P' R' y ≡ bit_xor h (bit h p * g)

@@ -199,7 +199,8 @@ module _ (P : ℕ) (R : ℕ → ℕ) (h : ℕ) (f : Facts P R h) where
 
     pub resp-reduced : (y : ℕ) → dot w (reduced P R y) ≡ bit_xor (dot w y) (dot l y)
     resp-reduced y =
-        dot-linear w y (combination R (bit_and y P)) ∙ ap (bit_xor (dot w y)) (resp-comb (bit_and y P) (masked y) ∙ part-dot l P y resp-inside)
+        dot-linear w y (combination R (bit_and y P)) ∙ ap (bit_xor (dot w y)) (resp-comb (bit_and y P) (masked y)
+        ∙ part-dot l P y resp-inside)
 
     -- the parity of a string of the space, by its coordinates
     pub response : (y : ℕ) → reduced P R y ≡ h → dot w y ≡ bit_xor (dot w h) (dot l y)

@@ -81,7 +81,8 @@ ones-drop x a l on =
     let i = set_below 48 x a l on in
     let low : bit_xor x (2 ^ a) < 2 ^ 48 = xor_lt 48 x (2 ^ a) l (pow-lt i) in
     let e = sum_drop (bit x) (bit (bit_xor x (2 ^ a))) a 48 i on (dropped x a on) (λ k ne. undropped x a k ne) in
-    ap (λ n. n + 1) (ap ones (sym (mod-eq_of_lt low)) ∙ ones_low 48 (bit_xor x (2 ^ a))) ∙ e ∙ sym (ones_low 48 x) ∙ ap ones (mod-eq_of_lt l)
+    ap (λ n. n + 1) (ap ones (sym (mod-eq_of_lt low)) ∙ ones_low 48 (bit_xor x (2 ^ a))) ∙ e ∙ sym (ones_low 48 x)
+    ∙ ap ones (mod-eq_of_lt l)
 
 pub ones-zero : ones 0 ≡ 0
 unfolding ones

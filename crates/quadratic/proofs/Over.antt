@@ -47,7 +47,8 @@ even-string n mask x on =
     spread-on n mask (x + x) on ∙ ap₂ (λ b y. b * 2 ^ n + spread n mask y) e h ∙ ap (λ z. z + spread n mask x) (zero-mul (2 ^ n))
     ∙ zero-add (spread n mask x)
 
-odd-string : (n mask c x : ℕ) → bit mask n ≡ 1 → bit_xor c (spread (suc n) mask (suc (x + x))) ≡ bit_xor (bit_xor c (2 ^ n)) (spread n mask x)
+odd-string : (n mask c x : ℕ) → bit mask n ≡ 1
+    → bit_xor c (spread (suc n) mask (suc (x + x))) ≡ bit_xor (bit_xor c (2 ^ n)) (spread n mask x)
 odd-string n mask c x on =
     let e : suc (x + x) % 2 ≡ 1 = omega arith in
     let h : suc (x + x) / 2 ≡ x = omega arith in
@@ -175,7 +176,8 @@ module _ {R : Type 0} {o : Ops R} (laws : CommLaws o) where
       rw (suc-add, add-suc) (laws.plus_assoc _ _ _ ∙ ap (λ s. s ⊕ (f (m + m) ⊕ f (suc (m + m)))) (sum-pairs f m))
 
   -- the parts of a mask are its strings by number
-  pub over-numbered : (f : ℕ → R) (mask n c : ℕ) → over o f mask n c ≡ sum_to o (λ x. f (bit_xor c (spread n mask x))) (2 ^ sum (bit mask) n)
+  pub over-numbered : (f : ℕ → R) (mask n c : ℕ)
+      → over o f mask n c ≡ sum_to o (λ x. f (bit_xor c (spread n mask x))) (2 ^ sum (bit mask) n)
   unfolding over spread
   over-numbered f mask zero c = sym (CommFacts.nil_plus laws _ ∙ ap f (xor_zero_r c))
   over-numbered f mask (suc n) c =

@@ -35,7 +35,8 @@ impl<R: Ring> RunningSum<R> {
     pub fn add(&mut self, x: &Intersection) -> Result<(), Refusal>
         ensures number { answer_of result ≡ add_number self.old.count x.now }
         ensures count { answer_of result ≡ 0 → self.new.count ≡ self.old.count + 1 }
-        ensures value { answer_of result ≡ 0 → R.value self.new.value ≡ R.ops.plus (R.value self.old.value) (term_in R.ops x.now self.old.count) }
+        ensures value { answer_of result ≡ 0
+            → R.value self.new.value ≡ R.ops.plus (R.value self.old.value) (term_in R.ops x.now self.old.count) }
         ensures refused { 0 < answer_of result → self.new ≡ self.old }
     {
         let Intersection::Space(s) = x else {

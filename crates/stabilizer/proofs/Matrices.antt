@@ -79,7 +79,8 @@ bit-other y a i k h ne =
 pick-lt : (a m n : ℕ) → a < 2 → m < 2 ^ n → a * m < 2 ^ n
 pick-lt a m n h l = digit (λ a. a * m < 2 ^ n) (rw zero-mul (pow_pos n)) (rw one-mul l) a h
 
-pub gate-opposite : (n : ℕ) (g : Gate) (j l : ℕ) → takes g n j l ≡ true → Opposite n (gate_matrix n g j l) (gate_matrix n (inverseGate g) j l)
+pub gate-opposite : (n : ℕ) (g : Gate) (j l : ℕ) → takes g n j l ≡ true
+    → Opposite n (gate_matrix n g j l) (gate_matrix n (inverseGate g) j l)
 gate-opposite n X j l h = flip-opposite n _ _ _ (λ y. first-qubit n j l h) (λ y. refl) (λ y. refl)
 gate-opposite n Z j l h = still-opposite n _ _ (λ y. omega arith)
 gate-opposite n S j l h = still-opposite n _ _ (λ y. omega arith)

@@ -222,7 +222,8 @@ module _ (n : ℕ) (text : List ℕ) (e : length text ≡ n + 1) where
       go None q h = h ∙ sym (number_is None (text-parts text some ∙ ap (signed _) q ∙ none _))
 
   -- the masks of the letters with the quarters of the sign are those of the text
-  pub text-good : (m : PauliMasks) (t : ℕ) → quarters_of (sign_of (get_or text 0 0)) ≡ Some t → MaskedLetters (Ok m) (letters_of (drop 1 text))
+  pub text-good : (m : PauliMasks) (t : ℕ) → quarters_of (sign_of (get_or text 0 0)) ≡ Some t
+      → MaskedLetters (Ok m) (letters_of (drop 1 text))
       → (0 ≡ text_number n text) × Masked (Ok (record { flips = m.flips; signs = m.signs; quarters = m.quarters + t })) (pauli_of text)
   text-good m t q h = go (sign_of (get_or text 0 0)) (letters_of (drop 1 text)) (letters-length (drop 1 text)) (text-parts text some) q h
     where

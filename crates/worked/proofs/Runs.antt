@@ -96,6 +96,7 @@ both-held b e Q d s f q l o h =
     rows a z at = ap (λ a. row s.body.space.rows (lead (row_at b 0 1 a))) z ∙ ap (row s.body.space.rows) at ∙ h.row
         ∙ sym (ap (row_at b 0 1) z ∙ f.row)
 
-    linears : (a : ℕ) → a ≡ 0 → lead (row_at b 0 1 0) ≡ 0 → coefficient_at s.body (lead (row_at b 0 1 a)) ≡ 2 * bits_from b (linear_place 0 1 1 a) 2
+    linears : (a : ℕ) → a ≡ 0 → lead (row_at b 0 1 0) ≡ 0
+        → coefficient_at s.body (lead (row_at b 0 1 a)) ≡ 2 * bits_from b (linear_place 0 1 1 a) 2
     linears a z at = ap (λ a. coefficient_at s.body (lead (row_at b 0 1 a))) z ∙ ap (coefficient_at s.body) at ∙ h.linear
         ∙ sym (ap (λ a. 2 * bits_from b (linear_place 0 1 1 a) 2) z ∙ ap (λ x. 2 * x) f.linear)

@@ -225,7 +225,8 @@ impl AffineSpace {
         requires off { bit_and f self.old.pivots ≡ 0 }
         ensures pivots { self.new.pivots ≡ bit_xor self.old.pivots (2 ^ p) }
         ensures doubled { Doubled self.old self.new f }
-        ensures rows { (q : ℕ) → row self.new.rows q ≡ bit_xor (row self.old.rows q) (bit_xor (digit (row self.old.rows q) p) (digit (2 ^ p) q) * f) }
+        ensures rows { (q : ℕ) → row self.new.rows q
+            ≡ bit_xor (row self.old.rows q) (bit_xor (digit (row self.old.rows q) p) (digit (2 ^ p) q) * f) }
         ensures shift { self.new.shift ≡ bit_xor self.old.shift (digit self.old.shift p * f) }
     {
         let l = turned(self.column(p), p);

@@ -23,7 +23,8 @@ impl QuadraticForm {
 
     // The variables in which the form gains 4 where u is added.
     pub(crate) fn polar(&self, u: u64) -> u64
-        ensures { (c : ℕ) → (value_at self.now (bit_xor c u) + value_at self.now 0) % 8 ≡ (value_at self.now c + value_at self.now u + 4 * parity result c) % 8 }
+        ensures { (c : ℕ) → (value_at self.now (bit_xor c u) + value_at self.now 0) % 8
+            ≡ (value_at self.now c + value_at self.now u + 4 * parity result c) % 8 }
     {
         odd_rows(&self.coupling, u)
     }

@@ -215,7 +215,8 @@ impl QuadraticForm {
         requires low { mask < 2 ^ 48 }
         requires free { digit mask a ≡ 0 }
         requires small { beta < 2 }
-        ensures { (c : ℕ) → value_at self.new c ≡ value_at self.old (bit_xor c (bit_xor (digit c a) (bit_xor (parity mask c) beta) * 2 ^ a)) }
+        ensures { (c : ℕ) → value_at self.new c
+            ≡ value_at self.old (bit_xor c (bit_xor (digit c a) (bit_xor (parity mask c) beta) * 2 ^ a)) }
     {
         if beta == 1 {
             self.flip(a);

@@ -79,7 +79,8 @@ impl PhasedSpace {
     // What the form, and 4 times the parity with z, gain where d is added: 2 times the first, and 4 times the parity with the second.
     pub(crate) fn gain(&self, d: u64, z: u64) -> (u8, u64)
         ensures small { result.0 < 4 }
-        ensures law { (c : ℕ) → (value_at self.now.form (bit_xor c d) + 4 * parity z (bit_xor c d)) % 8 ≡ (value_at self.now.form c + (2 * result.0 + 4 * parity result.1 c)) % 8 }
+        ensures law { (c : ℕ) → (value_at self.now.form (bit_xor c d) + 4 * parity z (bit_xor c d)) % 8
+            ≡ (value_at self.now.form c + (2 * result.0 + 4 * parity result.1 c)) % 8 }
     {
         let u = d & self.space.pivots();
         let quarters = (self.form.value(u) + 8 - self.form.value(0)) % 8 / 2;

@@ -9,7 +9,8 @@ use Rattle.archive.proofs.put.put_coupling_row.Goals as goal
 shifted : (n k a c first : ℕ) → first ≡ place_of_coupling 0 n k a (suc a) → a < c → first + (c - (a + 1)) * 1 ≡ place_of_coupling 0 n k a c
 shifted n k a c first e l = let z : suc a - suc a ≡ 0 = omega arith in let m = mul-one (c - (a + 1)) in omega arith
 
-last : (n k a first : ℕ) → first ≡ place_of_coupling 0 n k a (suc a) → first + (k - (a + 1)) * 1 ≡ place_of_coupling 0 n k (suc a) (suc (suc a))
+last : (n k a first : ℕ) → first ≡ place_of_coupling 0 n k a (suc a)
+    → first + (k - (a + 1)) * 1 ≡ place_of_coupling 0 n k (suc a) (suc (suc a))
 last n k a first e =
     let z : suc a - suc a ≡ 0 = omega arith in
     let y : suc (suc a) - suc (suc a) ≡ 0 = omega arith in

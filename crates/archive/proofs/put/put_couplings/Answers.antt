@@ -19,7 +19,8 @@ begins n k a = let z : suc a - suc a ≡ 0 = omega arith in omega arith
 ends : (n k : ℕ) → place_of_coupling 0 n k k (suc k) ≡ bits_before_fill n k
 ends n k = let z : suc k - suc k ≡ 0 = omega arith in let y : k - k ≡ 0 = omega arith in let s = pairs-split k k (omega arith)
     ∙ refl in rest y s z where
-      rest : k - k ≡ 0 → pairs_before k k + pairs (k - k) ≡ pairs k → suc k - suc k ≡ 0 → place_of_coupling 0 n k k (suc k) ≡ bits_before_fill n k
+      rest : k - k ≡ 0 → pairs_before k k + pairs (k - k) ≡ pairs k → suc k - suc k ≡ 0
+          → place_of_coupling 0 n k k (suc k) ≡ bits_before_fill n k
       rest y s z = let t = ap pairs y in omega arith
 
 pub loop-a-preserved : goal.loop-a-preserved
