@@ -1,1 +1,3 @@
+mod Commas
 mod Glyphs
+mod Numbered

@@ -1,3 +1,6 @@
+ghost use Rattle.std.specs.Prelude.{Some};
+ghost use Rattle.listing.specs.Fields.{fields_text};
+
 use crate::space::SpaceText;
 use stabilizer::state::StabilizerState;
 use std::fmt;
@@ -7,6 +10,8 @@ use std::fmt;
 pub struct FieldsText<'a>(pub &'a StabilizerState);
 
 impl fmt::Display for FieldsText<'_> {
+    ghost output = { λ x. Some (fields_text x.0.now) };
+
     fn fmt<W: fmt::Write>(&self, f: &mut fmt::Formatter<W>) -> fmt::Result {
         let qubits = self.0.qubits();
         let dimension = self.0.dimension();

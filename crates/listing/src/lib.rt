@@ -9,6 +9,7 @@ pub mod fields;
 pub mod hex;
 pub mod overlap_line;
 pub mod pair;
+mod pairs;
 pub mod sheets;
 pub mod space;
 pub mod text;

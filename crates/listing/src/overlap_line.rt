@@ -1,8 +1,10 @@
-ghost use Rattle.std.specs.Prelude.{◌≡◌, Some};
+ghost use Rattle.std.specs.Prelude.{◌≡◌, Some, refl};
 ghost use Rattle.cyclotomic.specs.Refusals.{answer_of};
 ghost use Rattle.stabilizer.specs.Overlaps.{sizes_number, Overlapping};
+ghost use Rattle.listing.specs.Listings.{overlap_numbers, OverlapTells};
 ghost use Rattle.listing.specs.Texts.{overlap_text};
 
+use crate::pairs::Line;
 use crate::text::ScalarText;
 use cyclotomic::refusal::Refusal;
 use cyclotomic::scalar::Scalar;
@@ -47,5 +49,19 @@ impl fmt::Display for OverlapLine {
                 write!(f, "{i} {j} refused {number}")
             }
         }
+    }
+}
+
+impl Line for OverlapLine {
+    ghost text = { overlap_text };
+
+    ghost numbers = { overlap_numbers };
+
+    ghost tells = { OverlapTells };
+
+    ghost shown = { λ l. refl };
+
+    fn of(i: u64, j: u64, t: &StabilizerState, s: &StabilizerState) -> OverlapLine {
+        overlap_line(i, j, t, s)
     }
 }

@@ -1,10 +1,13 @@
-ghost use Rattle.std.specs.Prelude.{◌≡◌, IfOk};
+ghost use Rattle.std.specs.Prelude.{◌≡◌, IfOk, refl};
 ghost use Rattle.cyclotomic.specs.Refusals.{answer_of};
 ghost use Rattle.stabilizer.specs.Overlaps.{sizes_number};
+ghost use Rattle.listing.specs.Listings.{line_numbers, LineTells};
+ghost use Rattle.listing.specs.Texts.{line_text};
 ghost use Rattle.listing.specs.Lines.{Compares, outcome_number, Tells};
 
 use crate::columns::columns_of;
 use crate::comparison::{Comparison, Outcome, PairLine};
+use crate::pairs::Line;
 use cyclotomic::refusal::Refusal;
 use quadratic::intersection::Intersection;
 use stabilizer::overlap::overlap_into;
@@ -35,4 +38,18 @@ pub fn compare(t: &StabilizerState, s: &StabilizerState) -> Result<Comparison, R
         columns: columns_of(&both),
         equal: t.same(s),
     })
+}
+
+impl Line for PairLine {
+    ghost text = { line_text };
+
+    ghost numbers = { line_numbers };
+
+    ghost tells = { LineTells };
+
+    ghost shown = { λ l. refl };
+
+    fn of(i: u64, j: u64, t: &StabilizerState, s: &StabilizerState) -> PairLine {
+        pair_line(i, j, t, s)
+    }
 }

@@ -1,3 +1,8 @@
+ghost use Rattle.std.specs.Prelude.{◌≡◌, ℕ, ◌+◌, ◌-◌, ◌<◌, ◌≤◌, IfSome, Some, min, nat_lt, slice_index};
+ghost use Rattle.std.specs.Fmt.{WritesOnOk};
+ghost use Rattle.quadratic.specs.Bits.{bit};
+ghost use Rattle.listing.specs.Fields.{behind, bits_text, couplings_of, coupling_texts, dimension_of, following, joined, linear_text, row_text, space_text, up_to};
+
 use crate::hex::write_ascii;
 use quadratic::phased::PhasedSpace;
 use std::fmt;
@@ -13,98 +18,141 @@ pub struct SpaceText<'a> {
 }
 
 impl fmt::Display for SpaceText<'_> {
+    ghost output = { λ x. Some (space_text (min x.qubits 48) x.space.now) };
+
     fn fmt<W: fmt::Write>(&self, f: &mut fmt::Formatter<W>) -> fmt::Result {
-        let phase = self.space.phase();
-        write!(f, "{phase} ")?;
-        write_rows(f, self.space, self.qubits)?;
-        f.write_str(" ")?;
-        write_string(f, self.space.shift(), self.qubits)?;
-        f.write_str(" ")?;
-        write_linear(f, self.space)?;
-        f.write_str(" ")?;
-        write_couplings(f, self.space)
+        let space = self.space;
+        let phase = space.phase();
+        let rows = RowsText {
+            space,
+            qubits: self.qubits,
+        };
+        let shift = BitsText {
+            string: space.shift(),
+            length: self.qubits,
+        };
+        let linear = LinearText(space);
+        let couplings = CouplingsText(space);
+        write!(f, "{phase} {rows} {shift} {linear} {couplings}")
     }
 }
 
-// Writes the rows, joined by commas.
-fn write_rows<W: fmt::Write>(
-    f: &mut fmt::Formatter<W>,
-    space: &PhasedSpace,
-    qubits: u64,
-) -> fmt::Result {
-    if space.dimension() == 0 {
-        return f.write_str("-");
-    }
-    for a in 1..=space.dimension() {
-        if a > 1 {
-            f.write_str(",")?;
-        }
-        write_string(f, space.row(a).unwrap_or(0), qubits)?;
-    }
-    Ok(())
+// The lowest bits of a string as they are shown, qubit 1 first.
+#[derive(Clone, Copy)]
+struct BitsText {
+    string: u64,
+    length: u64,
 }
 
-// Writes a string of bits, qubit 1 first.
-fn write_string<W: fmt::Write>(f: &mut fmt::Formatter<W>, string: u64, qubits: u64) -> fmt::Result {
-    let bits = bits_of(string);
-    write_ascii(
-        f,
-        &bits[LONGEST - qubits.min(LONGEST as u64) as usize..LONGEST],
-    )
+impl fmt::Display for BitsText {
+    ghost output = { λ x. Some (bits_text (min x.length 48) x.string) };
+
+    fn fmt<W: fmt::Write>(&self, f: &mut fmt::Formatter<W>) -> fmt::Result {
+        let bits = bits_of(self.string);
+        let length = self.length.min(LONGEST as u64) as usize;
+        write_ascii(f, &bits[LONGEST - length..LONGEST])
+    }
 }
 
 // The lowest 48 bits of a string as digits, the highest first.
-fn bits_of(string: u64) -> [u8; LONGEST] {
-    let mut bits = [b'0'; LONGEST];
+fn bits_of(string: u64) -> [u8; LONGEST]
+    ensures { (k : ℕ) → k < 48 → slice_index result k ≡ 48 + bit string (47 - k) }
+{
+    let mut bits = [0; LONGEST];
     for i in 0..LONGEST {
-        if string >> (LONGEST - 1 - i) & 1 == 1 {
-            bits[i] = b'1';
-        }
+        bits[i] = b'0' + (string >> (LONGEST - 1 - i) & 1) as u8;
     }
     bits
 }
 
-// Writes the linear coefficients, joined by commas.
-fn write_linear<W: fmt::Write>(f: &mut fmt::Formatter<W>, space: &PhasedSpace) -> fmt::Result {
-    if space.dimension() == 0 {
-        return f.write_str("-");
-    }
-    for a in 1..=space.dimension() {
-        if a > 1 {
-            f.write_str(",")?;
+// The rows, joined by commas.
+#[derive(Clone, Copy)]
+struct RowsText<'a> {
+    space: &'a PhasedSpace,
+    qubits: u64,
+}
+
+impl fmt::Display for RowsText<'_> {
+    ghost output = { λ x. Some (joined (up_to (row_text (min x.qubits 48) x.space.now) (dimension_of x.space.now))) };
+
+    fn fmt<W: fmt::Write>(&self, f: &mut fmt::Formatter<W>) -> fmt::Result {
+        if self.space.dimension() == 0 {
+            return f.write_str("-");
         }
-        let coefficient = space.linear(a).unwrap_or(0);
-        write!(f, "{coefficient}")?;
+        for a in 0..self.space.dimension() {
+            let row = BitsText {
+                string: self.space.row(a + 1).unwrap_or(0),
+                length: self.qubits,
+            };
+            write_item(f, a > 0, row)?;
+        }
+        Ok(())
     }
-    Ok(())
 }
 
-// Writes the couplings, joined by commas, those of row 1 first.
-fn write_couplings<W: fmt::Write>(f: &mut fmt::Formatter<W>, space: &PhasedSpace) -> fmt::Result {
-    if space.dimension() < 2 {
-        return f.write_str("-");
+// The linear coefficients, joined by commas.
+#[derive(Clone, Copy)]
+struct LinearText<'a>(&'a PhasedSpace);
+
+impl fmt::Display for LinearText<'_> {
+    ghost output = { λ x. Some (joined (up_to (linear_text x.0.now) (dimension_of x.0.now))) };
+
+    fn fmt<W: fmt::Write>(&self, f: &mut fmt::Formatter<W>) -> fmt::Result {
+        if self.0.dimension() == 0 {
+            return f.write_str("-");
+        }
+        for a in 0..self.0.dimension() {
+            write_item(f, a > 0, self.0.linear(a + 1).unwrap_or(0))?;
+        }
+        Ok(())
     }
-    for a in 1..space.dimension() {
-        write_couplings_of(f, space, a)?;
-    }
-    Ok(())
 }
 
-// Writes the couplings of row a with the rows after it. A comma stands before each but the very first.
+// The couplings, joined by commas, those of row 1 first.
+#[derive(Clone, Copy)]
+struct CouplingsText<'a>(&'a PhasedSpace);
+
+impl fmt::Display for CouplingsText<'_> {
+    ghost output = { λ x. Some (joined (coupling_texts x.0.now (dimension_of x.0.now))) };
+
+    fn fmt<W: fmt::Write>(&self, f: &mut fmt::Formatter<W>) -> fmt::Result {
+        if self.0.dimension() < 2 {
+            return f.write_str("-");
+        }
+        for a in 0..self.0.dimension() {
+            write_couplings_of(f, self.0, a + 1)?;
+        }
+        Ok(())
+    }
+}
+
+// Writes the couplings of row a with the rows after it.
 fn write_couplings_of<W: fmt::Write>(
     f: &mut fmt::Formatter<W>,
     space: &PhasedSpace,
     a: u64,
-) -> fmt::Result {
-    for b in 2..=space.dimension() {
-        if b <= a {
-            continue;
-        }
-        if b > 2 {
-            f.write_str(",")?;
-        }
-        let coupling = space.coupling(a, b).unwrap_or(0);
-        write!(f, "{coupling}")?;
+) -> fmt::Result
+    requires { (1 ≤ a) × (a ≤ dimension_of space.now) }
+    ensures { WritesOnOk W.Write.write_str_gives f.old result
+        (following (nat_lt 1 a) (couplings_of space.now a (dimension_of space.now - a))) f.new }
+{
+    for b in a..space.dimension() {
+        let coupling = space.coupling(a, b + 1).unwrap_or(0);
+        write_item(f, b > 1, coupling)?;
     }
     Ok(())
+}
+
+// Writes an item of a list, with a comma before it if others are.
+fn write_item<W: fmt::Write, D: fmt::Display + Drop>(
+    f: &mut fmt::Formatter<W>,
+    more: bool,
+    item: D,
+) -> fmt::Result
+    ensures { IfSome (D.output item) (λ text. WritesOnOk W.Write.write_str_gives f.old result (behind more text) f.new) }
+{
+    if more {
+        f.write_str(",")?;
+    }
+    f.write(item)
 }
