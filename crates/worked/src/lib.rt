@@ -13,3 +13,6 @@ pub fn worked_examples() -> (Scalar, Scalar)
     let overlap = Scalar::term(-3, 1);
     (overlap, overlap.conjugate())
 }
+
+#[cfg(test)]
+mod tests;

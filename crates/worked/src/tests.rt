@@ -1,0 +1,127 @@
+// Worked examples, run.
+use archive::codec::{read, write};
+use cyclotomic::refusal::Refusal;
+use listing::sheets::write_listing;
+use stabilizer::overlap::overlap;
+use stabilizer::state::StabilizerState;
+use std::io;
+
+// One qubit: both amplitudes 1/2, and the same with the second turned to i/2.
+const LEVEL: [u8; 4] = [0x04, 0x10, 0x00, 0x88];
+
+const TURNED: [u8; 4] = [0x04, 0x10, 0x00, 0x89];
+// One qubit, weight -4096, amplitude at the string 0 alone.
+const SPENT: [u8; 4] = [0x04, 0x08, 0x00, 0x00];
+
+// The state with these bytes; the built-in one where there is none.
+fn state_of(bytes: &[u8]) -> StabilizerState {
+    let mut state = StabilizerState::new();
+    let _ = read(&mut state, bytes);
+    state
+}
+
+// The first four bytes of a state.
+fn bytes_of(state: &StabilizerState) -> [u8; 4] {
+    let mut buffer = [0; 4];
+    let _ = write(state, &mut buffer);
+    buffer
+}
+
+fn number_of(answer: Result<(), Refusal>) -> u64 {
+    match answer {
+        Ok(()) => 0,
+        Err(refusal) => refusal.number(),
+    }
+}
+
+#[test]
+fn opens_1_to_48_qubits(rt: HostRuntime) {
+    let mut state = StabilizerState::new();
+    for (qubits, number) in [(49, 2), (0, 2), (48, 0), (1, 0)] {
+        assert_eq!(rt; number_of(state.open(qubits)), number, "at {qubits}");
+    }
+    assert_eq!(rt; bytes_of(&state), [0x04, 0, 0, 0]);
+}
+
+#[test]
+fn projects_one_qubit(rt: HostRuntime) {
+    let opened = [0x04, 0, 0, 0];
+    for (bytes, text, number, left) in [
+        (opened, *b"+X", 0, LEVEL),
+        (opened, *b"+Y", 0, TURNED),
+        (opened, *b"-Z", 21, opened),
+        (opened, *b"-I", 21, opened),
+        (LEVEL, *b"+Y", 0, [0x04, 0x10, 0x01, 0x79]),
+        (SPENT, *b"+X", 22, SPENT),
+        (SPENT, *b"-Z", 21, SPENT),
+        (SPENT, *b"+Z", 0, SPENT),
+        (SPENT, *b"*Z", 12, SPENT),
+    ] {
+        let mut state = state_of(&bytes);
+        assert_eq!(rt; number_of(state.project(&text)), number, "at {}", text[1]);
+        assert_eq!(rt; bytes_of(&state), left, "at {}", text[1]);
+    }
+}
+
+#[test]
+fn overlaps_are_conjugate(rt: HostRuntime) {
+    let level = state_of(&LEVEL);
+    let turned = state_of(&TURNED);
+    for (t, s, turn) in [(level, turned, 1), (turned, level, 7)] {
+        match overlap(&t, &s) {
+            Ok(x) => {
+                assert_eq!(rt; x.epsilon(), 1);
+                assert_eq!(rt; x.power(), -3);
+                assert_eq!(rt; x.turn(), turn);
+            }
+            Err(refusal) => assert_eq!(rt; refusal.number(), 0),
+        }
+    }
+}
+
+#[test]
+fn refuses_a_weight_field_of_4097(rt: HostRuntime) {
+    let mut state = state_of(&LEVEL);
+    match read(&mut state, &[0x04, 0x08, 0x00, 0x80]) {
+        Ok(()) => assert!(rt; false, "read"),
+        Err(fault) => {
+            assert_eq!(rt; fault.number(), 4);
+            assert_eq!(rt; fault.place(), 12);
+        }
+    }
+    assert_eq!(rt; bytes_of(&state), LEVEL);
+}
+
+#[test]
+fn answers_c_in_four_bytes(rt: HostRuntime) {
+    for (t, s, number, start) in [
+        (LEVEL, LEVEL, 0, [0x80, 0x04, 0, 0]),
+        (LEVEL, TURNED, 0, [0x80, 0x06, 0x40, 0]),
+        ([0x04, 0x10, 0, 0x8c], LEVEL, 5, [9; 4]),
+        (LEVEL, [0x08, 0, 0, 0], 23, [9; 4]),
+    ] {
+        let mut answer = [9; 6];
+        assert_eq!(rt; host::overlap(&t, &s, &mut answer), number);
+        assert!(rt; &answer[..4] == start.as_slice(), "at {number}");
+        assert!(rt; &answer[4..] == [9; 2].as_slice());
+    }
+    assert_eq!(rt; host::overlap(&LEVEL, &[], &mut [0; 4]), 1);
+    assert_eq!(rt; host::overlap(&[], &[], &mut [0; 3]), 13);
+}
+
+#[test]
+fn lists_two_states(rt: HostRuntime) -> io::Result<()> {
+    let mut text = Vec::new(rt.alloc());
+    write_listing(
+        rt.alloc(),
+        &mut text,
+        &[2, 0x04, 0x10, 0x00, 0x88, 0x04, 0x10, 0x00, 0x89],
+    )?;
+    let listing =
+        "sheets 2\n1 2 1 -3 1 05 0000000000000001000000000000000000000000000000010000000000000000 .\n";
+    assert!(rt; text.as_slice() == listing.as_bytes());
+    text.clear();
+    write_listing(rt.alloc(), &mut text, &[2, 0x04, 0x10, 0x00, 0x88])?;
+    assert!(rt; text.as_slice() == "fault 1 1 2 1 40\n".as_bytes());
+    Ok(())
+}
