@@ -67,7 +67,7 @@ pub fn write(state: &StabilizerState, buffer: &mut [u8]) -> Result<usize, Refusa
     Ok(length)
 }
 
-// Writes a state and reads it again: what is read is the same state.
+// Writes a state and reads it again: what is read is the same state. The bytes past those of the state stay, and refused all do.
 pub fn reread(
     state: &StabilizerState,
     copy: &mut StabilizerState,
@@ -78,6 +78,8 @@ pub fn reread(
     ensures copied { MatchResult result (λ _. SameState copy.new state.now) (λ _. copy.new ≡ copy.old) }
     ensures bytes { MatchResult result (λ m. RunOf state.now (take m buffer.new))
         (λ _. buffer.new ≡ buffer.old) }
+    ensures past { MatchResult result (λ m. (i : ℕ) → m ≤ i → slice_index buffer.new i ≡ slice_index buffer.old i)
+        (λ _. Unit {0}) }
 {
     match write(state, buffer) {
         Ok(length) => match read(copy, &buffer[0..length]) {

@@ -1,6 +1,7 @@
 -- The number that the entry answers, and the four bytes that it writes.
 use Rattle.std.specs.Prelude.{◌≡◌, ℕ, ◌+◌, ◌*◌, ◌/◌, ◌%◌, ◌^◌, ◌<◌, cond, List, [], ◌∷◌, Some, None, Option, ◌==◌, nat_lt, slice_index, unsigned_abs}
 use Rattle.cyclotomic.specs.Refusals.{number_of}
+use Rattle.cyclotomic.specs.declared.refusal.Refusal.TheVariants.{Sizes}
 use Rattle.cyclotomic.specs.Scalars.{Triple, triple_of}
 use Rattle.cyclotomic.specs.declared.scalar.Scalar.{Scalar}
 use Rattle.stabilizer.specs.Overlaps.{Overlaps}
@@ -15,6 +16,14 @@ use Rattle.host.specs.declared.Denial.TheVariants.{Fault, Refused}
 abbrev pub denial_number : Denial → ℕ
 denial_number (Fault f) = (state_report f).number
 denial_number (Refused e) = number_of e
+
+-- a fault, or else another denial; and the denial of a pair: the first's fault, the second's, different numbers of qubits, or none
+abbrev pub denied_or : Option StateFault → Option Denial → Option Denial
+denied_or (Some f) d = Some (Fault f)
+denied_or None d = d
+
+abbrev pub pair_denial : List ℕ → List ℕ → Option Denial
+pair_denial t s = denied_or (alone_fault t) (denied_or (alone_fault s) (cond (size_at t 0 == size_at s 0) None (Some (Refused Sizes))))
 
 -- the number of a fault, or else another
 abbrev pub fault_or : Option StateFault → ℕ → ℕ

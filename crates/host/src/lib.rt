@@ -1,10 +1,10 @@
 // The overlap of two states given as bytes, for programs in other languages: the crate `sangyldem` hands it to C.
 #![tactic(auto)]
 
-ghost use Rattle.std.specs.Prelude.{◌≡◌, ℕ, ◌<◌, ◌≤◌, length, IfOk, MatchResult, slice_index};
+ghost use Rattle.std.specs.Prelude.{◌≡◌, ℕ, ◌<◌, ◌≤◌, length, IfOk, Some, None, MatchResult, slice_index};
 ghost use Rattle.cyclotomic.specs.Scalars.{triple_of};
 ghost use Rattle.host.specs.declared.Denial.TheVariants.{Fault, Refused};
-ghost use Rattle.host.specs.Answers.{denial_number, pair_number, entry_number, word_of, bytes_of, Overlapped, Answered};
+ghost use Rattle.host.specs.Answers.{denial_number, pair_denial, pair_number, entry_number, word_of, bytes_of, Overlapped, Answered};
 
 use archive::codec::read;
 use archive::fault::StateFault;
@@ -50,6 +50,7 @@ impl Denial {
 // The overlap of the states that two runs of bytes hold.
 pub fn overlap_of(t: &[u8], s: &[u8]) -> Result<Scalar, Denial>
     ensures number { MatchResult result (λ _. pair_number t.now s.now ≡ 0) (λ d. denial_number d ≡ pair_number t.now s.now) }
+    ensures denial { MatchResult result (λ _. pair_denial t.now s.now ≡ None) (λ d. pair_denial t.now s.now ≡ Some d) }
     ensures value { IfOk result (Overlapped t.now s.now) }
 {
     let mut first = StabilizerState::new();

@@ -4,6 +4,7 @@ use Rattle.host.proofs.overlap_of.Goals as goal
 pub returns : goal.returns
 returns c = record {
   number = search rules;
+  denial = search rules;
   value = record {
     first = c.read.new.state;
     second = c.read-2.new.state;

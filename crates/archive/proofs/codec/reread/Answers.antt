@@ -15,4 +15,5 @@ returns-in-Ok-read c =
       length = c.in-Ok.ensures.length.0;
       copied = one_state b 0 c.read.new.state c.args.state.now (alone-end b w.sound).0 held w.holds;
       bytes = w;
+      past = c.in-Ok.ensures.past;
     }
