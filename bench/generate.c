@@ -4,9 +4,9 @@
  *   random   k from 0 to 48, spaces and shifts at random: many intersections are empty
  *   through  k from 0 to 48, spaces at random, shift 0: no intersection is empty
  *   common   k = 29: 11 rows that all states share and 18 at random, shift 0: intersections of about 11 dimensions, so that the
- *            listing adds up strings
+ *            listing has columns
  *
- * On standard error: the number of pairs, and of the strings that the listing adds up for one ring, that is the sum of 2^d over the
+ * On standard error: the number of pairs, and of the strings that the listing's columns are sums over, that is the sum of 2^d over the
  * pairs with d at most 12.
  */
 #include <stdint.h>

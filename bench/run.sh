@@ -32,7 +32,7 @@ for kind in full random through common; do
         sum=$((sum + $(elapsed $out/$kind.archive crates/list/out/list)))
     done
     mean=$((sum / rounds))
-    echo "  $kind: $((mean / 1000)) us, $((mean / pairs)) ns per pair, $strings strings added per ring"
+    echo "  $kind: $((mean / 1000)) us, $((mean / pairs)) ns per pair, columns over $strings strings"
 done
 
 # The program `bench`, for times without reading and printing:
@@ -40,20 +40,18 @@ done
 # reads the archive once; then ROUNDS times, for each pair, does nothing (read), the overlap (overlap), or, for intersections of at
 # most 12 dimensions, the whole running sum in each ring (sum). It prints one line: the number of overlaps or of
 # added strings (all rings together), and a number made from every result.
-if grep -q '^bench:' crates.txt; then
-    build bench
-    echo "inside, $rounds rounds:"
-    for kind in full random through common; do
-        for mode in overlap sum; do
-            idle=$(elapsed $out/$kind.archive crates/bench/out/bench read "$rounds")
-            busy=$(elapsed $out/$kind.archive crates/bench/out/bench $mode "$rounds")
-            read -r count _ <$out/answer
-            [ "$count" -gt 0 ] || continue
-            case $mode in
-            overlap) unit="overlap" ;;
-            sum) unit="added string" ;;
-            esac
-            echo "  $kind: $(((busy - idle) / count)) ns per $unit ($count)"
-        done
+build bench
+echo "inside, $rounds rounds:"
+for kind in full random through common; do
+    for mode in overlap sum; do
+        idle=$(elapsed $out/$kind.archive crates/bench/out/bench read "$rounds")
+        busy=$(elapsed $out/$kind.archive crates/bench/out/bench $mode "$rounds")
+        read -r count _ <$out/answer
+        [ "$count" -gt 0 ] || continue
+        case $mode in
+        overlap) unit="overlap" ;;
+        sum) unit="added string" ;;
+        esac
+        echo "  $kind: $(((busy - idle) / count)) ns per $unit ($count)"
     done
-fi
+done
