@@ -1,3 +1,9 @@
+ghost use Rattle.std.specs.Prelude.{◌≡◌, IfOk, OnErr};
+ghost use Rattle.std.specs.Borrow.{sem};
+ghost use Rattle.console.specs.Lending.{LendsState};
+ghost use Rattle.console.specs.Sessions.{state_of, Looks};
+ghost use Rattle.console.specs.Answers.{Denies, call_answer, scalar_answer, split_answer};
+
 use crate::answer::{Answer, RingValue};
 use crate::command::{Command, Name, Operands, RingName};
 use archive::container::Denial;
@@ -43,10 +49,14 @@ impl Session {
         &mut self,
         command: Command,
         operands: &mut Operands,
-    ) -> Result<Answer, AllocError> {
+    ) -> Result<Answer, AllocError>
+        ensures kept { IfOk result (λ a. Denies a → self.new ≡ self.old) }
+        ensures looks { Looks command → self.new ≡ self.old }
+        ensures memory { OnErr result (self.new ≡ self.old) }
+    {
         match command {
             Command::Help => Ok(Answer::Help),
-            Command::Open { name, qubits } => Ok(of_call(self.named_mut(name).open(qubits))),
+            Command::Open { name, qubits } => Ok(open(self.named_mut(name), qubits)),
             Command::Read { name } => Ok(read(self.named_mut(name), &operands.first)),
             Command::Take { name, index } => Ok(take(self.named_mut(name), &operands.first, index)),
             Command::Write { name } => write(self.named(name), &mut operands.buffer),
@@ -60,8 +70,8 @@ impl Session {
                 kind,
                 first,
                 second,
-            } => Ok(of_call(self.named_mut(name).gate(kind, first, second))),
-            Command::Project { name } => Ok(of_call(self.named_mut(name).project(&operands.first))),
+            } => Ok(gate(self.named_mut(name), kind, first, second)),
+            Command::Project { name } => Ok(project(self.named_mut(name), &operands.first)),
             Command::Split { place } => Ok(of_split(split(
                 &self.s,
                 &self.t,
@@ -86,21 +96,29 @@ impl Session {
     }
 
     // The state with a name.
-    fn named(&self, name: Name) -> &StabilizerState {
+    fn named(&self, name: Name) -> &StabilizerState
+        ensures { result.now ≡ state_of self.now name }
+    {
         match name {
             Name::S => &self.s,
             Name::T => &self.t,
         }
     }
 
-    fn named_mut(&mut self, name: Name) -> &mut StabilizerState {
+    // The same, to be changed: it is put back in its place.
+    fn named_mut(&mut self, name: Name) -> &mut StabilizerState
+        ensures* lent { sem 𝓛 (LendsState self.entry name result) }
+        ensures value { result.now ≡ state_of self.old name }
+    {
         match name {
             Name::S => &mut self.s,
             Name::T => &mut self.t,
         }
     }
 
-    fn intersect(&mut self) -> Answer {
+    fn intersect(&mut self) -> Answer
+        ensures kept { Denies result → self.new ≡ self.old }
+    {
         let t = self.t;
         let s = self.s;
         match intersect(&mut self.last, &t, &s) {
@@ -113,14 +131,36 @@ impl Session {
     }
 }
 
-fn read(state: &mut StabilizerState, bytes: &[u8]) -> Answer {
+fn open(state: &mut StabilizerState, qubits: u64) -> Answer
+    ensures kept { Denies result → state.new ≡ state.old }
+{
+    of_call(state.open(qubits))
+}
+
+fn gate(state: &mut StabilizerState, kind: u64, first: u64, second: u64) -> Answer
+    ensures kept { Denies result → state.new ≡ state.old }
+{
+    of_call(state.gate(kind, first, second))
+}
+
+fn project(state: &mut StabilizerState, text: &[u8]) -> Answer
+    ensures kept { Denies result → state.new ≡ state.old }
+{
+    of_call(state.project(text))
+}
+
+fn read(state: &mut StabilizerState, bytes: &[u8]) -> Answer
+    ensures kept { Denies result → state.new ≡ state.old }
+{
     match codec::read(state, bytes) {
         Ok(()) => Answer::Done,
         Err(fault) => Answer::Fault(FaultLine::from(fault)),
     }
 }
 
-fn take(state: &mut StabilizerState, archive: &[u8], index: u64) -> Answer {
+fn take(state: &mut StabilizerState, archive: &[u8], index: u64) -> Answer
+    ensures kept { Denies result → state.new ≡ state.old }
+{
     match container::take(state, archive, index) {
         Ok(()) => Answer::Done,
         Err(denial) => of_denial(denial),
@@ -166,21 +206,27 @@ fn view(archive: &[u8], index: u64, buffer: &mut Vec<u8>) -> Result<Answer, Allo
     }
 }
 
-fn of_call(res: Result<(), Refusal>) -> Answer {
+fn of_call(res: Result<(), Refusal>) -> Answer
+    ensures { result ≡ call_answer res }
+{
     match res {
         Ok(()) => Answer::Done,
         Err(refusal) => Answer::Refused(refusal),
     }
 }
 
-fn of_scalar(res: Result<Scalar, Refusal>) -> Answer {
+fn of_scalar(res: Result<Scalar, Refusal>) -> Answer
+    ensures { result ≡ scalar_answer res }
+{
     match res {
         Ok(scalar) => Answer::Scalar(scalar),
         Err(refusal) => Answer::Refused(refusal),
     }
 }
 
-fn of_split(res: Result<SplitValue, Refusal>) -> Answer {
+fn of_split(res: Result<SplitValue, Refusal>) -> Answer
+    ensures { result ≡ split_answer res }
+{
     match res {
         Ok(value) => match value {
             SplitValue::Value(scalar) => Answer::Scalar(scalar),
