@@ -1,8 +1,10 @@
 ghost use Rattle.std.specs.Prelude.{◌≡◌, IfOk, OnErr};
 ghost use Rattle.std.specs.Borrow.{sem};
 ghost use Rattle.console.specs.Lending.{LendsState};
-ghost use Rattle.console.specs.Sessions.{state_of, Looks};
-ghost use Rattle.console.specs.Answers.{Denies, call_answer, scalar_answer, split_answer};
+ghost use Rattle.cyclotomic.specs.Refusals.{answer_of};
+ghost use Rattle.console.specs.Sessions.{state_of, Looks, Leaves, Ran};
+ghost use Rattle.console.specs.Answers.{Denies, call_answer, denial_answer, scalar_answer, split_answer};
+ghost use Rattle.console.specs.Commands.{Opens, Gates, Projects, Reads, Takes, Writes, WritesInto, ShowsTotal, Embeds, Checks, Views};
 
 use crate::answer::{Answer, RingValue};
 use crate::command::{Command, Name, Operands, RingName};
@@ -52,6 +54,7 @@ impl Session {
     ) -> Result<Answer, AllocError>
         ensures kept { IfOk result (λ a. Denies a → self.new ≡ self.old) }
         ensures looks { Looks command → self.new ≡ self.old }
+        ensures ran { IfOk result (λ a. Ran command operands.old self.old a operands.new self.new) }
         ensures memory { OnErr result (self.new ≡ self.old) }
     {
         match command {
@@ -118,6 +121,7 @@ impl Session {
 
     fn intersect(&mut self) -> Answer
         ensures kept { Denies result → self.new ≡ self.old }
+        ensures shared { Leaves self.old result self.new }
     {
         let t = self.t;
         let s = self.s;
@@ -133,24 +137,28 @@ impl Session {
 
 fn open(state: &mut StabilizerState, qubits: u64) -> Answer
     ensures kept { Denies result → state.new ≡ state.old }
+    ensures opened { Opens qubits state.old result state.new }
 {
     of_call(state.open(qubits))
 }
 
 fn gate(state: &mut StabilizerState, kind: u64, first: u64, second: u64) -> Answer
     ensures kept { Denies result → state.new ≡ state.old }
+    ensures applied { Gates kind first second state.old result state.new }
 {
     of_call(state.gate(kind, first, second))
 }
 
 fn project(state: &mut StabilizerState, text: &[u8]) -> Answer
     ensures kept { Denies result → state.new ≡ state.old }
+    ensures projected { Projects text.now state.old result state.new }
 {
     of_call(state.project(text))
 }
 
 fn read(state: &mut StabilizerState, bytes: &[u8]) -> Answer
     ensures kept { Denies result → state.new ≡ state.old }
+    ensures read { Reads bytes.now state.old result state.new }
 {
     match codec::read(state, bytes) {
         Ok(()) => Answer::Done,
@@ -160,6 +168,7 @@ fn read(state: &mut StabilizerState, bytes: &[u8]) -> Answer
 
 fn take(state: &mut StabilizerState, archive: &[u8], index: u64) -> Answer
     ensures kept { Denies result → state.new ≡ state.old }
+    ensures taken { Takes archive.now index state.old result state.new }
 {
     match container::take(state, archive, index) {
         Ok(()) => Answer::Done,
@@ -168,7 +177,9 @@ fn take(state: &mut StabilizerState, archive: &[u8], index: u64) -> Answer
 }
 
 // Puts the bytes of a state into the buffer, and nothing else.
-fn write(state: &StabilizerState, buffer: &mut Vec<u8>) -> Result<Answer, AllocError> {
+fn write(state: &StabilizerState, buffer: &mut Vec<u8>) -> Result<Answer, AllocError>
+    ensures { IfOk result (λ a. Writes state.now a buffer.new.items) }
+{
     buffer.clear();
     buffer.resize(LONGEST, 0)?;
     match codec::write(state, buffer) {
@@ -180,14 +191,18 @@ fn write(state: &StabilizerState, buffer: &mut Vec<u8>) -> Result<Answer, AllocE
     }
 }
 
-fn write_into(state: &StabilizerState, buffer: &mut [u8]) -> Answer {
+fn write_into(state: &StabilizerState, buffer: &mut [u8]) -> Answer
+    ensures { WritesInto state.now result buffer.old buffer.new }
+{
     match codec::write(state, buffer) {
         Ok(length) => Answer::Length(length),
         Err(refusal) => Answer::Refused(refusal),
     }
 }
 
-fn check(archive: &[u8]) -> Answer {
+fn check(archive: &[u8]) -> Answer
+    ensures { Checks archive.now result }
+{
     match container::check(archive) {
         Ok(count) => Answer::Count(count),
         Err(fault) => Answer::Fault(FaultLine::from(fault)),
@@ -195,7 +210,9 @@ fn check(archive: &[u8]) -> Answer {
 }
 
 // Puts the part of an archive into the buffer.
-fn view(archive: &[u8], index: u64, buffer: &mut Vec<u8>) -> Result<Answer, AllocError> {
+fn view(archive: &[u8], index: u64, buffer: &mut Vec<u8>) -> Result<Answer, AllocError>
+    ensures { IfOk result (λ a. Views archive.now index a buffer.new.items) }
+{
     match container::view(archive, index) {
         Ok(part) => {
             buffer.clear();
@@ -236,7 +253,9 @@ fn of_split(res: Result<SplitValue, Refusal>) -> Answer
     }
 }
 
-fn of_denial(denial: Denial) -> Answer {
+fn of_denial(denial: Denial) -> Answer
+    ensures { result ≡ denial_answer denial }
+{
     match denial {
         Denial::Fault(fault) => Answer::Fault(FaultLine::from(fault)),
         Denial::Refused(refusal) => Answer::Refused(refusal),
@@ -244,7 +263,9 @@ fn of_denial(denial: Denial) -> Answer {
 }
 
 // A fresh running sum in a ring that is handed an intersection so many times.
-fn total(x: &Intersection, ring: RingName, times: u64) -> Answer {
+fn total(x: &Intersection, ring: RingName, times: u64) -> Answer
+    ensures { ShowsTotal ring times x.now result }
+{
     match ring {
         RingName::Mod17 => {
             let (sum, last) = added::<Mod17>(x, times);
@@ -266,7 +287,9 @@ fn total(x: &Intersection, ring: RingName, times: u64) -> Answer {
 }
 
 // The scalar in a ring.
-fn embedded(ring: RingName, scalar: Scalar) -> Answer {
+fn embedded(ring: RingName, scalar: Scalar) -> Answer
+    ensures { Embeds ring scalar result }
+{
     match ring {
         RingName::Mod17 => match embed::<Mod17>(scalar) {
             Ok(value) => Answer::Value(RingValue::Mod17(value)),
@@ -280,7 +303,9 @@ fn embedded(ring: RingName, scalar: Scalar) -> Answer {
 }
 
 // The number of an answer, 0 where it was granted.
-fn number_of(answer: Result<(), Refusal>) -> u64 {
+fn number_of(answer: Result<(), Refusal>) -> u64
+    ensures { result ≡ answer_of answer }
+{
     match answer {
         Ok(()) => 0,
         Err(refusal) => refusal.number(),
