@@ -1,4 +1,5 @@
 pub mod Answers
 pub mod Commands
 pub mod Lending
+pub mod Replies
 pub mod Sessions
