@@ -7,8 +7,9 @@ use Rattle.console.specs.Commands.{ShowsSame, Shares, ShowsSum, ShowsCoordinates
 use Rattle.console.specs.declared.answer.Answer.{Answer}
 use Rattle.console.specs.declared.answer.Answer.TheVariants.{Help as ShowsHelp, Fields as ShowsFields}
 use Rattle.console.specs.declared.command.Command.{Command}
-use Rattle.console.specs.declared.command.Command.TheVariants.{Help, Open, Read, Take, Write, WriteInto, Fields, Amplitude, Gate, Project}
-use Rattle.console.specs.declared.command.Command.TheVariants.{Split, Overlap, Same, Intersect, Sum, Coordinates, Total, Embed, Check, View, Host}
+use Rattle.console.specs.declared.command.Command.TheVariants.{Help, Open, Read, Take, Write, WriteInto, Fields, Amplitude}
+use Rattle.console.specs.declared.command.Command.TheVariants.{Gate, Project, Split, Overlap, Same, Intersect}
+use Rattle.console.specs.declared.command.Command.TheVariants.{Sum, Coordinates, Total, Embed, Check, View, Host}
 use Rattle.console.specs.declared.command.Name.{Name}
 use Rattle.console.specs.declared.command.Name.TheVariants.{S as NamedS, T as NamedT}
 use Rattle.console.specs.declared.command.Operands.{Operands}
