@@ -1,3 +1,11 @@
+ghost use Rattle.std.specs.Prelude.{Some};
+ghost use Rattle.std.specs.Fmt.{WritesOnOk};
+ghost use Rattle.cyclotomic.specs.Scalars.{triple_of};
+ghost use Rattle.listing.specs.Digits.{hex_text};
+ghost use Rattle.listing.specs.Fields.{fields_text};
+ghost use Rattle.listing.specs.Texts.{triple_text};
+ghost use Rattle.console.specs.Replies.{common_text, refusal_text, reply_text, value_text};
+
 use crate::problem::Problem;
 use cyclotomic::mod17::Mod17;
 use cyclotomic::quads::Cyclotomic64;
@@ -63,6 +71,8 @@ const HELP: &str =
      g:KIND:J:L and p:TEXT with ; between, - for none";
 
 impl fmt::Display for Reply<'_> {
+    ghost output = { λ x. Some (reply_text x.answer x.buffer.now) };
+
     fn fmt<W: fmt::Write>(&self, f: &mut fmt::Formatter<W>) -> fmt::Result {
         match self.answer {
             Answer::Help => f.write_str(HELP),
@@ -99,22 +109,30 @@ impl fmt::Display for Reply<'_> {
     }
 }
 
-fn write_refusal<W: fmt::Write>(f: &mut fmt::Formatter<W>, refusal: Refusal) -> fmt::Result {
+fn write_refusal<W: fmt::Write>(f: &mut fmt::Formatter<W>, refusal: Refusal) -> fmt::Result
+    ensures { WritesOnOk W.Write.write_str_gives f.old result (refusal_text refusal) f.new }
+{
     let number = refusal.number();
     write!(f, "refused {number}")
 }
 
-fn write_bytes<W: fmt::Write>(f: &mut fmt::Formatter<W>, bytes: &[u8]) -> fmt::Result {
+fn write_bytes<W: fmt::Write>(f: &mut fmt::Formatter<W>, bytes: &[u8]) -> fmt::Result
+    ensures { WritesOnOk W.Write.write_str_gives f.old result (hex_text bytes.now) f.new }
+{
     let pairs = HexBytes(bytes);
     write!(f, "{pairs}")
 }
 
-fn write_scalar<W: fmt::Write>(f: &mut fmt::Formatter<W>, scalar: Scalar) -> fmt::Result {
+fn write_scalar<W: fmt::Write>(f: &mut fmt::Formatter<W>, scalar: Scalar) -> fmt::Result
+    ensures { WritesOnOk W.Write.write_str_gives f.old result (triple_text (triple_of scalar)) f.new }
+{
     let text = ScalarText(scalar);
     write!(f, "{text}")
 }
 
-fn write_value<W: fmt::Write>(f: &mut fmt::Formatter<W>, value: RingValue) -> fmt::Result {
+fn write_value<W: fmt::Write>(f: &mut fmt::Formatter<W>, value: RingValue) -> fmt::Result
+    ensures { WritesOnOk W.Write.write_str_gives f.old result (value_text value) f.new }
+{
     match value {
         RingValue::Mod17(x) => {
             let text = ColumnText(x);
@@ -128,7 +146,9 @@ fn write_value<W: fmt::Write>(f: &mut fmt::Formatter<W>, value: RingValue) -> fm
 }
 
 // Writes the fields of a state.
-fn write_fields<W: fmt::Write>(f: &mut fmt::Formatter<W>, state: &StabilizerState) -> fmt::Result {
+fn write_fields<W: fmt::Write>(f: &mut fmt::Formatter<W>, state: &StabilizerState) -> fmt::Result
+    ensures { WritesOnOk W.Write.write_str_gives f.old result (fields_text state.now) f.new }
+{
     let text = FieldsText(state);
     write!(f, "{text}")
 }
@@ -138,7 +158,9 @@ fn write_common<W: fmt::Write>(
     f: &mut fmt::Formatter<W>,
     both: &Intersection,
     qubits: u64,
-) -> fmt::Result {
+) -> fmt::Result
+    ensures { WritesOnOk W.Write.write_str_gives f.old result (common_text both.now qubits) f.new }
+{
     match both {
         Intersection::Empty => f.write_str("empty"),
         Intersection::Space(space) => {

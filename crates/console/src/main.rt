@@ -1,6 +1,10 @@
 // Looks into states and archives: commands on standard input, one to a line, and a line of answer for each on standard output.
 #![tactic(auto)]
 
+ghost use Rattle.std.specs.Prelude.{◌≡◌, IfOk, OnOk, OnErr};
+ghost use Rattle.console.specs.Answers.{Denies};
+ghost use Rattle.console.specs.Lines.{words_of, IsSilent, Does, Replied};
+
 mod answer;
 mod calls;
 mod command;
@@ -40,7 +44,11 @@ fn answer_line<O: Write>(
     operands: &mut Operands,
     out: &mut O,
     line: &[u8],
-) -> io::Result<()> {
+) -> io::Result<()>
+    ensures silent { IsSilent (words_of line.now) → (session.new ≡ session.old) × (out.new ≡ out.old) }
+    ensures replied { OnOk result ((IsSilent (words_of line.now) → ⊥)
+        → Replied session.old session.new (O.contents out.old) (O.contents out.new)) }
+{
     match without_end(line) {
         [] | [b'#', ..] => Ok(()),
         words => {
@@ -59,7 +67,11 @@ fn answer_of(
     session: &mut Session,
     operands: &mut Operands,
     words: &[u8],
-) -> Result<Answer, AllocError> {
+) -> Result<Answer, AllocError>
+    ensures done { IfOk result (λ a. Does session.old a operands.new session.new) }
+    ensures kept { IfOk result (λ a. Denies a → session.new ≡ session.old) }
+    ensures memory { OnErr result (session.new ≡ session.old) }
+{
     match command::parse(words, operands) {
         Ok(command) => session.run(command, operands),
         Err(problem) => Ok(Answer::Unreadable(problem)),
@@ -67,7 +79,9 @@ fn answer_of(
 }
 
 // The line without its line break.
-fn without_end(line: &[u8]) -> &[u8] {
+fn without_end(line: &[u8]) -> &[u8]
+    ensures { result.now ≡ words_of line.now }
+{
     match line {
         [text @ .., b'\r', b'\n'] => text,
         [text @ .., b'\n'] => text,

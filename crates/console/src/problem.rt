@@ -1,3 +1,6 @@
+ghost use Rattle.std.specs.Prelude.{Some};
+ghost use Rattle.console.specs.Replies.{problem_text};
+
 use std::fmt;
 
 // Why a line cannot be read.
@@ -16,6 +19,8 @@ pub enum Problem {
 }
 
 impl fmt::Display for Problem {
+    ghost output = { λ x. Some (problem_text x) };
+
     fn fmt<W: fmt::Write>(&self, f: &mut fmt::Formatter<W>) -> fmt::Result {
         f.write_str(match self {
             Problem::UnknownCommand => "no such command; help lists them",

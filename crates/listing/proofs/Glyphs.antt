@@ -1,10 +1,10 @@
 -- What stands at each place of printed digits.
-use Rattle.std.proofs.Common.{◌≡◌, ℕ, zero, suc, ◌+◌, ◌-◌, ◌<◌, ◌≤◌, List, ◌∷◌, length, get_or, take, drop, sym, refl, ap, ◌∙◌, subst, add-zero, zero-add, arith, length-take-le, get_or-take}
+use Rattle.std.proofs.Common.{◌≡◌, ℕ, zero, suc, ◌+◌, ◌-◌, ◌<◌, ◌≤◌, List, [], ◌∷◌, ◌++◌, length, get_or, take, drop, sym, refl, ap, ◌∙◌, subst, add-zero, zero-add, arith, append-nil, length-take-le, get_or-take}
 use Rattle.std.proofs.lemmas.List.{drop_all, drop_more, ext_get_or, take_rest}
 use Rattle.std.specs.Fmt.{HasWritten}
 use Rattle.std.specs.declared.fmt.Formatter.{Formatter}
 use Rattle.quadratic.specs.Bits.{bit}
-use Rattle.listing.specs.Digits.{glyph_of, glyphs}
+use Rattle.listing.specs.Digits.{glyph_of, glyphs, byte_text, pairs_text}
 use Rattle.listing.specs.Fields.{bits_text}
 
 pub length-glyphs : (f : ℕ → ℕ) (at n : ℕ) → length (glyphs f at n) ≡ n
@@ -50,3 +50,8 @@ bits-shown xs y n e h each =
 pub same-put : {W : Type 0} {took : W → List ℕ → W → Type 0} {f g : Formatter W} {bs cs : List ℕ} → bs ≡ cs
     → HasWritten took f bs g → HasWritten took f cs g
 same-put {W} {took} {f} {g} e p = subst (λ (xs : List ℕ). HasWritten took f xs g) e p
+
+-- one byte more is one pair more
+pub pairs-more : (bs : List ℕ) (b : ℕ) → pairs_text (bs ++ b ∷ []) ≡ pairs_text bs ++ byte_text b
+pairs-more [] b = append-nil (byte_text b)
+pairs-more (x ∷ bs) b = ap (λ (t : List ℕ). byte_text x ++ t) (pairs-more bs b)

@@ -1,5 +1,5 @@
 -- Hexadecimal digits as they are printed.
-use Rattle.std.specs.Prelude.{◌≡◌, ℕ, zero, suc, ◌+◌, ◌-◌, ◌*◌, ◌/◌, ◌%◌, ◌<◌, true, cond, ◌⊎◌, List, [], ◌∷◌, length, is_some, Some, None, Option, nat_lt, slice_index}
+use Rattle.std.specs.Prelude.{◌≡◌, ℕ, zero, suc, ◌+◌, ◌-◌, ◌*◌, ◌/◌, ◌%◌, ◌<◌, true, cond, ◌⊎◌, List, [], ◌∷◌, ◌++◌, length, codes, is_some, Some, None, Option, nat_lt, slice_index}
 use Rattle.std.specs.Option.{unwrap_or}
 
 -- the byte that stands for a digit, in small letters
@@ -40,3 +40,15 @@ byte_at w i = 16 * unwrap_or (nibble_of (slice_index w (2 * i))) 0 + unwrap_or (
 pub record Decoded (w bytes : List ℕ) : Type 0 where
   pub long : length bytes ≡ length w / 2
   pub each : (i : ℕ) → i < length w / 2 → slice_index bytes i ≡ byte_at w i
+
+-- a byte as a pair of small digits; bytes as pairs, `-` standing for none
+abbrev pub byte_text : ℕ → List ℕ
+byte_text b = glyph_of (b / 16) ∷ glyph_of (b % 16) ∷ []
+
+abbrev pub pairs_text : List ℕ → List ℕ
+pairs_text [] = []
+pairs_text (b ∷ bs) = byte_text b ++ pairs_text bs
+
+abbrev pub hex_text : List ℕ → List ℕ
+hex_text [] = codes "-"
+hex_text (b ∷ bs) = pairs_text (b ∷ bs)

@@ -1,7 +1,7 @@
-ghost use Rattle.std.specs.Prelude.{◌≡◌, ℕ, ◌%◌, ◌<◌, ◌≤◌, length, IfSome, MatchBool, MatchOption, OnOk};
+ghost use Rattle.std.specs.Prelude.{◌≡◌, ℕ, ◌%◌, ◌<◌, ◌≤◌, length, IfSome, Some, MatchBool, MatchOption, OnOk};
 ghost use Rattle.std.specs.Option.{unwrap_or};
 ghost use Rattle.std.specs.Fmt.{WritesOnOk};
-ghost use Rattle.listing.specs.Digits.{glyph_of, nibble_of, Digits, Paired, digits_of, Decoded};
+ghost use Rattle.listing.specs.Digits.{glyph_of, nibble_of, Digits, Paired, digits_of, Decoded, byte_text, hex_text};
 
 use std::alloc::AllocError;
 use std::fmt;
@@ -89,26 +89,25 @@ fn all_digits(word: &[u8]) -> bool
 pub struct HexBytes<'a>(pub &'a [u8]);
 
 impl fmt::Display for HexBytes<'_> {
+    ghost output = { λ x. Some (hex_text x.0.now) };
+
     fn fmt<W: fmt::Write>(&self, f: &mut fmt::Formatter<W>) -> fmt::Result {
         if self.0.is_empty() {
             return f.write_str("-");
         }
-        for part in self.0.chunks(32) {
-            write_pairs(f, part)?;
+        for byte in self.0 {
+            write_byte(f, *byte)?;
         }
         Ok(())
     }
 }
 
-// Writes at most 32 bytes as pairs of digits.
-fn write_pairs<W: fmt::Write>(f: &mut fmt::Formatter<W>, part: &[u8]) -> fmt::Result {
-    let mut digits = [b'0'; 64];
-    let used = part.len().min(32);
-    for i in 0..used {
-        digits[2 * i] = glyph(part[i] / 16);
-        digits[2 * i + 1] = glyph(part[i] % 16);
-    }
-    write_ascii(f, &digits[0..2 * used])
+// Writes a byte as a pair of digits.
+fn write_byte<W: fmt::Write>(f: &mut fmt::Formatter<W>, byte: u8) -> fmt::Result
+    ensures { WritesOnOk W.Write.write_str_gives f.old result (byte_text byte) f.new }
+{
+    let digits = [glyph(byte / 16), glyph(byte % 16)];
+    write_ascii(f, &digits)
 }
 
 // Writes text that is given as bytes.

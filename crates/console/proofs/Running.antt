@@ -1,0 +1,39 @@
+-- From what a call on a state did to what a command did to the session.
+use Rattle.std.proofs.Common.{◌≡◌, ℕ, ◌<◌, ◌≤◌, List, length, get_or, Ok, Err, Result, IfOk, OnOk, inr, refl, sym, ap, ◌∙◌, subst}
+use Rattle.host.specs.Answers.{entry_number, Answered}
+use Rattle.stabilizer.specs.declared.state.StabilizerState.{StabilizerState}
+use Rattle.console.specs.Commands.{Enters}
+use Rattle.console.specs.Lines.{Does}
+use Rattle.console.specs.Sessions.{state_of, with_state, Becomes, Looks, Ran}
+use Rattle.console.specs.declared.answer.Answer.{Answer}
+use Rattle.console.specs.declared.answer.Answer.TheVariants.{Number}
+use Rattle.console.specs.declared.command.Command.{Command}
+use Rattle.console.specs.declared.command.Name.{Name}
+use Rattle.console.specs.declared.command.Operands.{Operands}
+use Rattle.console.specs.declared.session.Session.{Session}
+
+-- the state that a call left was put back under its name
+pub becomes : (name : Name) (R : StabilizerState → Answer → StabilizerState → Type 0) (x : Session)
+    (s s' : StabilizerState) (a : Answer) → s ≡ state_of x name → R s a s' → Becomes name R x a (with_state x name s')
+becomes name R x s s' a e h = (s', subst (λ z. R z a s') e h, refl)
+
+-- what the entry answered, by its number
+pub enters : (t s b b' : List ℕ) (n : ℕ) → n ≡ entry_number t s (length b) → (n ≡ 0 → Answered t s b')
+    → (0 < n → b' ≡ b) → ((k : ℕ) → 4 ≤ k → get_or b' k 0 ≡ get_or b k 0) → Enters t s (Number n) b b'
+enters t s b b' n e granted refused rest = record {
+  number = ap Number e;
+  granted = λ z. granted (e ∙ z);
+  refused = λ h. refused (subst (λ m. 0 < m) (sym e) h);
+  rest = rest;
+}
+
+-- a command that was read is what the line asked for
+pub does : {E : Type 0} (r : Result Answer E) (command : Command) (o o' : Operands) (x x' : Session)
+    → IfOk r (λ a. Ran command o x a o' x') → (Looks command → x' ≡ x) → IfOk r (λ a. Does x a o' x')
+does (Ok a) command o o' x x' ran looks = inr (command, o, ran, looks)
+does (Err e) command o o' x x' ran looks = ran
+
+-- what holds on success, by what it leads to
+pub on-ok : {A E P Q : Type 0} (r : Result A E) → OnOk r P → (P → Q) → OnOk r Q
+on-ok (Ok a) p f = f p
+on-ok (Err e) p f = p

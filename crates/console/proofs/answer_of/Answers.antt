@@ -1,0 +1,7 @@
+use Rattle.console.proofs.Running.{does}
+use Rattle.console.proofs.answer_of.Goals as goal
+
+pub returns-in-Ok-clause-done : goal.returns-in-Ok-clause-done
+returns-in-Ok-clause-done c =
+    does c.run.result c.in-Ok.command c.parse.new.operands c.run.new.operands c.args.session.now c.run.new.self
+    c.run.ensures.ran c.run.ensures.looks

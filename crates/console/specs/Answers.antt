@@ -1,0 +1,58 @@
+-- What an answer says of what a call of a library answered.
+use Rattle.std.specs.Prelude.{◌≡◌, Ok, Err, Result}
+use Rattle.archive.specs.Faults.{Report, archive_report}
+use Rattle.archive.specs.declared.container.Denial.{Denial}
+use Rattle.archive.specs.declared.container.Denial.TheVariants.{Fault as OfArchive, Refused as OfCall}
+use Rattle.circuit.specs.declared.division.SplitValue.{SplitValue}
+use Rattle.circuit.specs.declared.division.SplitValue.TheVariants.{Value as Counts, Aside as Apart}
+use Rattle.cyclotomic.specs.Modular.{Below, Quad, seventeen, quads}
+use Rattle.cyclotomic.specs.Ring.{Ops}
+use Rattle.cyclotomic.specs.declared.refusal.Refusal.{Refusal}
+use Rattle.cyclotomic.specs.declared.scalar.Scalar.{Scalar}
+use Rattle.listing.specs.Sums.{residue_of, quad_of}
+use Rattle.console.specs.declared.answer.Answer.{Answer}
+use Rattle.console.specs.declared.answer.Answer.TheVariants.{Done, Refused, Fault, Unreadable, Scalar as Shows, Aside}
+use Rattle.console.specs.declared.answer.RingValue.{RingValue}
+use Rattle.console.specs.declared.answer.RingValue.TheVariants.{Mod17 as Residue, Quad as Words}
+use Rattle.console.specs.declared.command.RingName.{RingName}
+use Rattle.console.specs.declared.command.RingName.TheVariants.{Mod17 as NamedResidue, Quad as NamedWords}
+
+-- an answer that grants nothing
+abbrev pub Denies : Answer → Type 0
+Denies (Refused e) = Unit {0}
+Denies (Fault f) = Unit {0}
+Denies (Unreadable p) = Unit {0}
+Denies a = ⊥
+
+-- the answer to a call that may be refused
+abbrev pub call_answer : Result Unit Refusal → Answer
+call_answer (Ok u) = Done
+call_answer (Err e) = Refused e
+
+abbrev pub scalar_answer : Result Scalar Refusal → Answer
+scalar_answer (Ok x) = Shows x
+scalar_answer (Err e) = Refused e
+
+abbrev pub split_answer : Result SplitValue Refusal → Answer
+split_answer (Ok (Counts x)) = Shows x
+split_answer (Ok Apart) = Aside
+split_answer (Err e) = Refused e
+
+-- the answer for a fault, and for what denies a state of an archive
+abbrev pub fault_answer : Report → Answer
+fault_answer r =
+    Fault (record { layer = r.layer; number = r.number; sheet = r.sheet; field = r.field; place = r.place })
+
+abbrev pub denial_answer : Denial → Answer
+denial_answer (OfArchive f) = fault_answer (archive_report f)
+denial_answer (OfCall e) = Refused e
+
+-- a is the answer to a call that came to something with P
+abbrev pub Answers : {A : Type 0} → (Result A Refusal → Answer) → (Result A Refusal → Type 0) → Answer → Type 0
+Answers {A} shown P a = (r : Result A Refusal) × (a ≡ shown r) × P r
+
+-- a value of the ring with a name is the element that f gives in every ring
+abbrev pub IsValue : RingName → RingValue → ((R : Type 0) → Ops R → R) → Type 0
+IsValue NamedResidue (Residue v) f = residue_of v ≡ f (Below 17) seventeen
+IsValue NamedWords (Words v) f = quad_of v ≡ f Quad quads
+IsValue ring v f = ⊥

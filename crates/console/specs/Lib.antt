@@ -1,0 +1,6 @@
+pub mod Answers
+pub mod Commands
+pub mod Lending
+pub mod Lines
+pub mod Replies
+pub mod Sessions

@@ -1,0 +1,37 @@
+-- What a line of the input is answered, and what it does to the session.
+use Rattle.std.specs.Prelude.{◌≡◌, ℕ, ◌⊎◌, List, [], ◌∷◌, Option, vec_items}
+use Rattle.std.specs.Io.BufRead.{strip_last}
+use Rattle.std.specs.Io.KnownBytes.{Appends}
+use Rattle.listing.specs.Written.{ended}
+use Rattle.console.specs.Answers.{Denies}
+use Rattle.console.specs.Replies.{reply_text}
+use Rattle.console.specs.Sessions.{Looks, Ran}
+use Rattle.console.specs.declared.answer.Answer.{Answer}
+use Rattle.console.specs.declared.answer.Answer.TheVariants.{Unreadable}
+use Rattle.console.specs.declared.command.Command.{Command}
+use Rattle.console.specs.declared.command.Operands.{Operands}
+use Rattle.console.specs.declared.problem.Problem.{Problem}
+use Rattle.console.specs.declared.session.Session.{Session}
+
+-- a line without its line break: a line feed, a carriage return, or both
+abbrev pub words_of : List ℕ → List ℕ
+words_of line = strip_last 13 (strip_last 10 line)
+
+-- an empty line, or a comment
+abbrev pub IsSilent : List ℕ → Type 0
+IsSilent [] = Unit {0}
+IsSilent (c ∷ words) = c ≡ 35
+
+-- the line cannot be read, or it asks for a command
+abbrev pub Does : Session → Answer → Operands → Session → Type 0
+Does x a o' x' =
+    ((p : Problem) × (a ≡ Unreadable p) × (x' ≡ x))
+    ⊎ ((command : Command) × (o : Operands) × Ran command o x a o' x' × (Looks command → x' ≡ x))
+
+-- a line is answered: the text of the answer and a line feed are written, and the session is left as the answer says
+pub record Replied (x x' : Session) (old new : Option (List ℕ)) : Type 0 where
+  pub answer : Answer
+  pub operands : Operands
+  pub done : Does x answer operands x'
+  pub kept : Denies answer → x' ≡ x
+  pub written : Appends old new (ended (reply_text answer (vec_items operands.buffer)))
