@@ -217,7 +217,9 @@ class Model:
 
     def same(self):
         t, s = self.states["t"], self.states["s"]
-        if self.qubits["s"] == self.qubits["t"] and UNKNOWN in (t, s):
+        if self.qubits["s"] != self.qubits["t"]:
+            return "."
+        if UNKNOWN in (t, s):
             return MARK
         return "=" if t == s else "."
 
