@@ -47,7 +47,7 @@ fn answer_line<O: Write>(
 ) -> io::Result<()>
     ensures silent { IsSilent (words_of line.now) → IsOk result × (session.new ≡ session.old) × (out.new ≡ out.old) }
     ensures replied { OnOk result ((IsSilent (words_of line.now) → ⊥)
-        → Replied session.old session.new (O.contents out.old) (O.contents out.new)) }
+        → Replied (words_of line.now) session.old session.new (O.contents out.old) (O.contents out.new)) }
 {
     match without_end(line) {
         [] | [b'#', ..] => Ok(()),
@@ -68,7 +68,7 @@ fn answer_of(
     operands: &mut Operands,
     words: &[u8],
 ) -> Result<Answer, AllocError>
-    ensures done { IfOk result (λ a. Does session.old a operands.new session.new) }
+    ensures done { IfOk result (λ a. Does words.now session.old a operands.new session.new) }
     ensures kept { IfOk result (λ a. Denies a → session.new ≡ session.old) }
     ensures memory { OnErr result (session.new ≡ session.old) }
 {
