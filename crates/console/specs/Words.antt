@@ -5,10 +5,14 @@ use Rattle.console.specs.declared.command.Command.TheVariants.{Help, Open, Read,
 use Rattle.console.specs.declared.command.Command.TheVariants.{Gate, Project, Split, Overlap, Same, Intersect}
 use Rattle.console.specs.declared.command.Command.TheVariants.{Sum, Coordinates, Total, Embed, Check, View, Host}
 use Rattle.console.specs.declared.command.Verb.{Verb}
-use Rattle.console.specs.declared.command.Verb.TheVariants.{Help as ToHelp, Open as ToOpen, Read as ToRead, Take as ToTake, Write as ToWrite}
-use Rattle.console.specs.declared.command.Verb.TheVariants.{Fields as ToFields, Amplitude as ToAmplitude, Gate as ToGate, Project as ToProject, Split as ToSplit}
-use Rattle.console.specs.declared.command.Verb.TheVariants.{Overlap as ToOverlap, Same as ToSame, Intersect as ToIntersect, Sum as ToSum, Coordinates as ToCoordinates}
-use Rattle.console.specs.declared.command.Verb.TheVariants.{Total as ToTotal, Embed as ToEmbed, Check as ToCheck, View as ToView, Host as ToHost}
+use Rattle.console.specs.declared.command.Verb.TheVariants.{Help as ToHelp, Open as ToOpen, Read as ToRead}
+use Rattle.console.specs.declared.command.Verb.TheVariants.{Take as ToTake, Write as ToWrite}
+use Rattle.console.specs.declared.command.Verb.TheVariants.{Fields as ToFields, Amplitude as ToAmplitude, Gate as ToGate}
+use Rattle.console.specs.declared.command.Verb.TheVariants.{Project as ToProject, Split as ToSplit}
+use Rattle.console.specs.declared.command.Verb.TheVariants.{Overlap as ToOverlap, Same as ToSame, Intersect as ToIntersect}
+use Rattle.console.specs.declared.command.Verb.TheVariants.{Sum as ToSum, Coordinates as ToCoordinates}
+use Rattle.console.specs.declared.command.Verb.TheVariants.{Total as ToTotal, Embed as ToEmbed, Check as ToCheck}
+use Rattle.console.specs.declared.command.Verb.TheVariants.{View as ToView, Host as ToHost}
 
 -- a line without the blanks at its start
 abbrev pub trimmed : List ℕ → List ℕ
