@@ -5,6 +5,7 @@ use Rattle.stabilizer.specs.declared.state.StabilizerState.{StabilizerState}
 use Rattle.console.specs.Commands.{Enters}
 use Rattle.console.specs.Lines.{Does}
 use Rattle.console.specs.Sessions.{state_of, with_state, Becomes, Looks, Ran}
+use Rattle.console.specs.Words.{Names}
 use Rattle.console.specs.declared.answer.Answer.{Answer}
 use Rattle.console.specs.declared.answer.Answer.TheVariants.{Number}
 use Rattle.console.specs.declared.command.Command.{Command}
@@ -28,10 +29,11 @@ enters t s b b' n e granted refused rest = record {
 }
 
 -- a command that was read is what the line asked for
-pub does : {E : Type 0} (r : Result Answer E) (command : Command) (o o' : Operands) (x x' : Session)
-    → IfOk r (λ a. Ran command o x a o' x') → (Looks command → x' ≡ x) → IfOk r (λ a. Does x a o' x')
-does (Ok a) command o o' x x' ran looks = inr (command, o, ran, looks)
-does (Err e) command o o' x x' ran looks = ran
+pub does : {E : Type 0} (words : List ℕ) (r : Result Answer E) (command : Command) (o o' : Operands) (x x' : Session)
+    → Names words command → IfOk r (λ a. Ran command o x a o' x') → (Looks command → x' ≡ x)
+    → IfOk r (λ a. Does words x a o' x')
+does words (Ok a) command o o' x x' named ran looks = inr (command, named, o, ran, looks)
+does words (Err e) command o o' x x' named ran looks = ran
 
 -- what holds on success, by what it leads to
 pub on-ok : {A E P Q : Type 0} (r : Result A E) → OnOk r P → (P → Q) → OnOk r Q

@@ -4,3 +4,4 @@ pub mod Lending
 pub mod Lines
 pub mod Replies
 pub mod Sessions
+pub mod Words

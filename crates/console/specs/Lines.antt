@@ -6,6 +6,7 @@ use Rattle.listing.specs.Written.{ended}
 use Rattle.console.specs.Answers.{Denies}
 use Rattle.console.specs.Replies.{reply_text}
 use Rattle.console.specs.Sessions.{Looks, Ran}
+use Rattle.console.specs.Words.{Names}
 use Rattle.console.specs.declared.answer.Answer.{Answer}
 use Rattle.console.specs.declared.answer.Answer.TheVariants.{Unreadable}
 use Rattle.console.specs.declared.command.Command.{Command}
@@ -22,16 +23,16 @@ abbrev pub IsSilent : List ℕ → Type 0
 IsSilent [] = Unit {0}
 IsSilent (c ∷ words) = c ≡ 35
 
--- the line cannot be read, or it asks for a command
-abbrev pub Does : Session → Answer → Operands → Session → Type 0
-Does x a o' x' =
+-- the words cannot be read, or the first of them names a command
+abbrev pub Does : List ℕ → Session → Answer → Operands → Session → Type 0
+Does words x a o' x' =
     ((p : Problem) × (a ≡ Unreadable p) × (x' ≡ x))
-    ⊎ ((command : Command) × (o : Operands) × Ran command o x a o' x' × (Looks command → x' ≡ x))
+    ⊎ ((command : Command) × Names words command × (o : Operands) × Ran command o x a o' x' × (Looks command → x' ≡ x))
 
 -- a line is answered: the text of the answer and a line feed are written, and the session is left as the answer says
-pub record Replied (x x' : Session) (old new : Option (List ℕ)) : Type 0 where
+pub record Replied (words : List ℕ) (x x' : Session) (old new : Option (List ℕ)) : Type 0 where
   pub answer : Answer
   pub operands : Operands
-  pub done : Does x answer operands x'
+  pub done : Does words x answer operands x'
   pub kept : Denies answer → x' ≡ x
   pub written : Appends old new (ended (reply_text answer (vec_items operands.buffer)))

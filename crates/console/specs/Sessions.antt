@@ -1,6 +1,8 @@
 -- What a command does to the session.
 use Rattle.std.specs.Prelude.{◌≡◌, map, vec_items}
 use Rattle.circuit.specs.Made.{call_of}
+use Rattle.quadratic.specs.declared.intersection.Intersection.TheVariants.{Empty}
+use Rattle.stabilizer.specs.States.{Opened}
 use Rattle.stabilizer.specs.declared.state.StabilizerState.{StabilizerState}
 use Rattle.console.specs.Commands.{Opens, Gates, Projects, Reads, Takes, Writes, WritesInto, ShowsAmplitude, ShowsOverlap, ShowsSplit}
 use Rattle.console.specs.Commands.{ShowsSame, Shares, ShowsSum, ShowsCoordinates, ShowsTotal, Embeds, Checks, Views, Enters}
@@ -24,6 +26,12 @@ state_of x NamedT = x.t
 abbrev pub with_state : Session → Name → StabilizerState → Session
 with_state x NamedS state = record x { s = state }
 with_state x NamedT state = record x { t = state }
+
+-- two states of one qubit with every other field 0, and the empty intersection
+pub record Fresh (x : Session) : Type 0 where
+  pub s : Opened x.s 1
+  pub t : Opened x.t 1
+  pub last : x.last ≡ Empty
 
 -- a command that only looks
 abbrev pub Looks : Command → Type 0

@@ -1,3 +1,7 @@
+ghost use Rattle.std.specs.Prelude.{◌≡◌, IfOk};
+ghost use Rattle.console.specs.Words.{verb_text, verb_of, Names, OnBytes, OnState};
+ghost use Rattle.console.specs.declared.command.Verb.TheVariants.{Split as ToSplit, Total as ToTotal, Embed as ToEmbed};
+
 use crate::calls;
 use crate::problem::Problem;
 use crate::words::Words;
@@ -145,7 +149,9 @@ enum Verb {
 }
 
 impl Verb {
-    fn of(word: &[u8]) -> Result<Verb, Problem> {
+    fn of(word: &[u8]) -> Result<Verb, Problem>
+        ensures { IfOk result (λ v. word.now ≡ verb_text v) }
+    {
         match word {
             b"help" => Ok(Verb::Help),
             b"open" => Ok(Verb::Open),
@@ -173,7 +179,9 @@ impl Verb {
 }
 
 // The command of a line; its bytes go into the operands.
-pub(crate) fn parse(line: &[u8], operands: &mut Operands) -> Result<Command, Problem> {
+pub(crate) fn parse(line: &[u8], operands: &mut Operands) -> Result<Command, Problem>
+    ensures { IfOk result (Names line.now) }
+{
     let mut words = Words::new(line);
     let verb = Verb::of(words.word()?)?;
     let command = parse_rest(verb, &mut words, operands)?;
@@ -186,7 +194,9 @@ fn parse_rest(
     verb: Verb,
     words: &mut Words<'_>,
     operands: &mut Operands,
-) -> Result<Command, Problem> {
+) -> Result<Command, Problem>
+    ensures { IfOk result (λ c. verb_of c ≡ verb) }
+{
     match verb {
         Verb::Help => Ok(Command::Help),
         Verb::Overlap => Ok(Command::Overlap),
@@ -218,7 +228,9 @@ fn parse_state(
     name: Name,
     words: &mut Words<'_>,
     operands: &mut Operands,
-) -> Result<Command, Problem> {
+) -> Result<Command, Problem>
+    ensures { IfOk result (λ c. OnState verb → verb_of c ≡ verb) }
+{
     match verb {
         Verb::Open => Ok(Command::Open {
             name,
@@ -265,7 +277,9 @@ fn parse_bytes(
     verb: Verb,
     words: &mut Words<'_>,
     operands: &mut Operands,
-) -> Result<Command, Problem> {
+) -> Result<Command, Problem>
+    ensures { IfOk result (λ c. OnBytes verb → verb_of c ≡ verb) }
+{
     words.bytes(&mut operands.first)?;
     match verb {
         Verb::Check => Ok(Command::Check),
@@ -280,19 +294,25 @@ fn parse_bytes(
     }
 }
 
-fn parse_split(words: &mut Words<'_>, operands: &mut Operands) -> Result<Command, Problem> {
+fn parse_split(words: &mut Words<'_>, operands: &mut Operands) -> Result<Command, Problem>
+    ensures { IfOk result (λ c. verb_of c ≡ ToSplit) }
+{
     let place = words.number()?;
     calls::read_calls(words.word()?, &mut operands.calls)?;
     Ok(Command::Split { place })
 }
 
-fn parse_total(words: &mut Words<'_>) -> Result<Command, Problem> {
+fn parse_total(words: &mut Words<'_>) -> Result<Command, Problem>
+    ensures { IfOk result (λ c. verb_of c ≡ ToTotal) }
+{
     let ring = RingName::of(words.word()?)?;
     let times = words.number()?;
     Ok(Command::Total { ring, times })
 }
 
-fn parse_embed(words: &mut Words<'_>) -> Result<Command, Problem> {
+fn parse_embed(words: &mut Words<'_>) -> Result<Command, Problem>
+    ensures { IfOk result (λ c. verb_of c ≡ ToEmbed) }
+{
     let ring = RingName::of(words.word()?)?;
     let epsilon = words.number()?;
     let power = words.signed()?;

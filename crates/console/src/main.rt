@@ -1,7 +1,7 @@
 // Looks into states and archives: commands on standard input, one to a line, and a line of answer for each on standard output.
 #![tactic(auto)]
 
-ghost use Rattle.std.specs.Prelude.{◌≡◌, IfOk, OnOk, OnErr};
+ghost use Rattle.std.specs.Prelude.{◌≡◌, IfOk, IsOk, OnOk, OnErr};
 ghost use Rattle.console.specs.Answers.{Denies};
 ghost use Rattle.console.specs.Lines.{words_of, IsSilent, Does, Replied};
 
@@ -45,9 +45,9 @@ fn answer_line<O: Write>(
     out: &mut O,
     line: &[u8],
 ) -> io::Result<()>
-    ensures silent { IsSilent (words_of line.now) → (session.new ≡ session.old) × (out.new ≡ out.old) }
+    ensures silent { IsSilent (words_of line.now) → IsOk result × (session.new ≡ session.old) × (out.new ≡ out.old) }
     ensures replied { OnOk result ((IsSilent (words_of line.now) → ⊥)
-        → Replied session.old session.new (O.contents out.old) (O.contents out.new)) }
+        → Replied (words_of line.now) session.old session.new (O.contents out.old) (O.contents out.new)) }
 {
     match without_end(line) {
         [] | [b'#', ..] => Ok(()),
@@ -68,7 +68,7 @@ fn answer_of(
     operands: &mut Operands,
     words: &[u8],
 ) -> Result<Answer, AllocError>
-    ensures done { IfOk result (λ a. Does session.old a operands.new session.new) }
+    ensures done { IfOk result (λ a. Does words.now session.old a operands.new session.new) }
     ensures kept { IfOk result (λ a. Denies a → session.new ≡ session.old) }
     ensures memory { OnErr result (session.new ≡ session.old) }
 {

@@ -2,7 +2,7 @@ ghost use Rattle.std.specs.Prelude.{◌≡◌, IfOk, OnErr};
 ghost use Rattle.std.specs.Borrow.{sem};
 ghost use Rattle.console.specs.Lending.{LendsState};
 ghost use Rattle.cyclotomic.specs.Refusals.{answer_of};
-ghost use Rattle.console.specs.Sessions.{state_of, Looks, Leaves, Ran};
+ghost use Rattle.console.specs.Sessions.{state_of, Fresh, Looks, Leaves, Ran};
 ghost use Rattle.console.specs.Answers.{Denies, call_answer, denial_answer, scalar_answer, split_answer};
 ghost use Rattle.console.specs.Commands.{Opens, Gates, Projects, Reads, Takes, Writes, WritesInto, ShowsTotal, Embeds, Checks, Views};
 
@@ -38,7 +38,9 @@ pub struct Session {
 
 impl Session {
     // Two built-in states, and the empty intersection.
-    pub(crate) fn new() -> Session {
+    pub(crate) fn new() -> Session
+        ensures { Fresh result }
+    {
         Session {
             s: StabilizerState::new(),
             t: StabilizerState::new(),

@@ -1,4 +1,5 @@
-ghost use Rattle.std.specs.Prelude.{◌≤◌, length};
+ghost use Rattle.std.specs.Prelude.{◌≡◌, ◌≤◌, length, take, IfOk};
+ghost use Rattle.console.specs.Words.{trimmed as trimmed_of, before};
 
 use crate::problem::Problem;
 use listing::hex::Hex;
@@ -10,7 +11,9 @@ pub struct Words<'a> {
 }
 
 impl<'a> Words<'a> {
-    pub(crate) fn new(line: &'a [u8]) -> Words<'a> {
+    pub(crate) fn new(line: &'a [u8]) -> Words<'a>
+        ensures { result.rest.now ≡ trimmed_of line.now }
+    {
         Words {
             rest: trimmed(line),
         }
@@ -22,7 +25,9 @@ impl<'a> Words<'a> {
     }
 
     // The next word.
-    pub(crate) fn word(&mut self) -> Result<&'a [u8], Problem> {
+    pub(crate) fn word(&mut self) -> Result<&'a [u8], Problem>
+        ensures { IfOk result (λ w. w.now ≡ before 32 self.old.rest.now) }
+    {
         if self.rest.is_empty() {
             return Err(Problem::MissingWord);
         }
@@ -63,7 +68,9 @@ impl<'a> Words<'a> {
 }
 
 // The line without the blanks at its start.
-fn trimmed(line: &[u8]) -> &[u8] {
+fn trimmed(line: &[u8]) -> &[u8]
+    ensures { result.now ≡ trimmed_of line.now }
+{
     let mut rest = line;
     while let [b' ', after @ ..] = rest {
         rest = after;
@@ -73,7 +80,8 @@ fn trimmed(line: &[u8]) -> &[u8] {
 
 // How many bytes stand before the first one that is `end`.
 pub(crate) fn until(line: &[u8], end: u8) -> usize
-    ensures { result ≤ length line.now }
+    ensures inside { result ≤ length line.now }
+    ensures before { take result line.now ≡ before end line.now }
 {
     for (i, byte) in line.iter().enumerate() {
         if *byte == end {
