@@ -12,8 +12,9 @@ PYTHON ?= python3
 ARCHIVE ?= samples/pair.archive
 PROGRAMS = list describe console walk bench
 
-# `rt run` proves a program, builds it as crates/NAME/out/NAME, and runs it.
-build = (cd crates/$(1) && $(RT) run </dev/null >/dev/null)
+# `rt run` proves a program, builds it as crates/NAME/out/NAME, and runs it. What it says of that goes to build/NAME.log.
+build = mkdir -p build && echo "building $(1) (the first time this proves it, which takes some minutes)" >&2 && \
+	{ (cd crates/$(1) && $(RT) run </dev/null >/dev/null 2>../../build/$(1).log) || { cat build/$(1).log >&2; false; }; }
 
 .PHONY: list describe test programs library c-example python-example damage fuzz bench clean
 
@@ -29,7 +30,7 @@ test:
 	./.ci/run
 
 programs:
-	for program in $(PROGRAMS); do $(call build,$$program) || exit 1; done
+	@for program in $(PROGRAMS); do $(call build,$$program) || exit 1; done
 
 library:
 	cd crates/sangyldem && $(RT) lib
