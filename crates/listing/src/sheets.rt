@@ -1,5 +1,6 @@
-ghost use Rattle.std.specs.Prelude.{◌≡◌, length, None, IfSome, MatchOption, OnOk};
+ghost use Rattle.std.specs.Prelude.{◌≡◌, length, None, IfSome, IfErr, MatchOption, OnOk};
 ghost use Rattle.std.specs.Io.KnownBytes.{Appends};
+ghost use Rattle.std.specs.IoError.{error_kind};
 ghost use Rattle.archive.specs.Loads.{fault_of};
 ghost use Rattle.listing.specs.Listings.{line_of_fault, Lists, ListsStates, sheets_text};
 ghost use Rattle.listing.specs.Written.{Writes};
@@ -11,7 +12,7 @@ use archive::load::{LoadError, load};
 use stabilizer::state::StabilizerState;
 use std::alloc::Global;
 use std::io;
-use std::io::{Read, Write};
+use std::io::{ErrorKind, Read, Write};
 
 // Reads an archive to its end, and writes its listing.
 pub fn list<R: Read, O: Write>(heap: Global, input: &mut R, out: &mut O) -> io::Result<()>
@@ -54,12 +55,13 @@ pub(crate) fn write_load_error<O: Write>(out: &mut O, error: LoadError) -> io::R
     ensures written { OnOk result (MatchOption (fault_of error) ⊥ (λ f.
         Appends (O.contents out.old) (O.contents out.new) (line_of_fault f))) }
     ensures memory { fault_of error ≡ None → out.new ≡ out.old }
+    ensures kind { fault_of error ≡ None → IfErr result (λ e. error_kind e ≡ ErrorKind.OutOfMemory) }
 {
     match error {
         LoadError::Archive(fault) => {
             let line = FaultLine::from(fault);
             writeln!(out, "{line}")
         }
-        LoadError::Memory => Err(io::Error::from(io::ErrorKind::OutOfMemory)),
+        LoadError::Memory => Err(io::Error::from(ErrorKind::OutOfMemory)),
     }
 }
