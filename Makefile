@@ -1,7 +1,9 @@
 # make list            build the listing program and list a sample archive (ARCHIVE=FILE for another one)
 # make describe        build the describing program and describe a sample archive (ARCHIVE=FILE for another one)
 # make test            prove every crate, try the must-fail edits, run the programs and tests
+# make edits           try the must-fail edits alone, over what `rt check` kept
 # make programs        build all programs: crates/NAME/out/NAME
+# make library         build the C entry as target/staticlib/libhost.a
 # make c-example       build the static library and a C program against it, and run it
 # make python-example  build a shared library from the static one and run a Python program over it
 # make damage          hand the console every truncation and single-bit change of some states and archives
@@ -16,7 +18,7 @@ PROGRAMS = list describe console walk bench
 build = mkdir -p build && echo "building $(1) (the first time this proves it, which takes some minutes)" >&2 && \
 	{ (cd crates/$(1) && $(RT) run </dev/null >/dev/null 2>../../build/$(1).log) || { cat build/$(1).log >&2; false; }; }
 
-.PHONY: list describe test programs library c-example python-example damage fuzz bench clean
+.PHONY: list describe test edits programs library c-example python-example damage fuzz bench clean
 
 list:
 	@$(call build,list)
@@ -29,11 +31,15 @@ describe:
 test:
 	./.ci/run
 
+edits:
+	$(RT) must-fail
+
 programs:
 	@for program in $(PROGRAMS); do $(call build,$$program) || exit 1; done
 
 library:
 	cd crates/sangyldem && $(RT) lib
+	mkdir -p target/staticlib && cp crates/sangyldem/out/libsangyldem.a target/staticlib/libhost.a
 
 c-example: library
 	$(MAKE) -C examples/c RT=$(RT)
@@ -53,4 +59,4 @@ bench: programs
 	bench/run.sh
 
 clean:
-	rm -rf build crates/*/out
+	rm -rf build target crates/*/out

@@ -1,6 +1,6 @@
 /* Exact overlaps of stabilizer states, for programs written in C.
  *
- * Link crates/sangyldem/out/libsangyldem.a, which `make library` makes. It needs memcpy and memset, and nothing else.
+ * Link target/staticlib/libhost.a, which `make library` makes. It needs memcpy and memset, and nothing else.
  * The layout of a state's bytes is in docs/FORMAT.md.
  */
 #ifndef SANGYLDEM_H

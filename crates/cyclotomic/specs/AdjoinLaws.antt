@@ -35,3 +35,11 @@ module _ {R : Type 0} {o : Ops R} (laws : CommLaws o) where
     w_fourth = both (both (simp (units, laws) (laws.plus_comm _ _ ∙ laws.plus_neg _)) (simp (units, laws)))
         (both (simp (units, laws)) (simp (units, laws)));
   }
+
+pub pair_discrete : {R : Type 0} → Discrete R → Discrete (Pair R)
+pair_discrete {R} d x y = both_of (d x.re y.re) (d x.im y.im)
+  where
+    both_of : Dec (x.re ≡ y.re) → Dec (x.im ≡ y.im) → Dec (x ≡ y)
+    both_of (yes p) (yes q) = yes (both p q)
+    both_of (yes p) (no f) = no (λ e. f (ap (λ z. z.im) e))
+    both_of (no f) e = no (λ e. f (ap (λ z. z.re) e))
