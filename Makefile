@@ -2,7 +2,7 @@
 # make describe        build the describing program and describe a sample archive (ARCHIVE=FILE for another one)
 # make test            prove every crate, try the must-fail edits, run the programs and tests
 # make edits           try the must-fail edits alone, over what `rt check` kept
-# make programs        build all programs: crates/NAME/out/NAME
+# make programs        build all programs: target/bin/NAME
 # make library         build the C entry as target/staticlib/libhost.a
 # make c-example       build the static library and a C program against it, and run it
 # make python-example  build a shared library from the static one and run a Python program over it
@@ -14,19 +14,20 @@ PYTHON ?= python3
 ARCHIVE ?= samples/pair.archive
 PROGRAMS = list describe console walk bench
 
-# `rt run` proves a program, builds it as crates/NAME/out/NAME, and runs it. What it says of that goes to build/NAME.log.
-build = mkdir -p build && echo "building $(1) (the first time this proves it, which takes some minutes)" >&2 && \
-	{ (cd crates/$(1) && $(RT) run </dev/null >/dev/null 2>../../build/$(1).log) || { cat build/$(1).log >&2; false; }; }
+# `rt run` proves a program, builds it in its crate's folder, and runs it. What it says of that goes to build/NAME.log.
+build = mkdir -p build target/bin && echo "building $(1) (the first time this proves it, which takes some minutes)" >&2 && \
+	{ (cd crates/$(1) && $(RT) run </dev/null >/dev/null 2>../../build/$(1).log) || { cat build/$(1).log >&2; false; }; } && \
+	cp crates/$(1)/out/$(1) target/bin/$(1)
 
 .PHONY: list describe test edits programs library c-example python-example damage fuzz bench clean
 
 list:
 	@$(call build,list)
-	@crates/list/out/list < $(ARCHIVE)
+	@target/bin/list < $(ARCHIVE)
 
 describe:
 	@$(call build,describe)
-	@crates/describe/out/describe < $(ARCHIVE)
+	@target/bin/describe < $(ARCHIVE)
 
 test:
 	./.ci/run

@@ -2,7 +2,7 @@
 
 For a state of the full size, and for small ones: every truncation, every change of a single bit, and one byte too many, by `read`. After a
 fault `write` has to give the old bytes, after `ok` the bytes that were read. For a small archive: the same by `check`, and by `take` of
-the last state. What the answer has to be is found by rules.py. Needs crates/console/out/console (`make programs`).
+the last state. What the answer has to be is found by rules.py. Needs target/bin/console (`make programs`).
 """
 import pathlib
 import random
@@ -12,7 +12,7 @@ import sys
 import make
 import rules
 
-CONSOLE = pathlib.Path(__file__).resolve().parents[1] / "crates" / "console" / "out" / "console"
+CONSOLE = pathlib.Path(__file__).resolve().parents[1] / "target" / "bin" / "console"
 
 
 class Lines:

@@ -19,7 +19,7 @@ import make
 import model
 import rules
 
-CRATES = pathlib.Path(__file__).resolve().parents[1] / "crates"
+PROGRAMS = pathlib.Path(__file__).resolve().parents[1] / "target" / "bin"
 BATCH = 1000
 LONGEST = 8000  # bytes of a line
 SLACK = 256  # kilobytes by which the console's memory may differ
@@ -204,7 +204,7 @@ class Console:
     """The console as a process that is asked many lines at a time."""
 
     def __init__(self):
-        self.process = subprocess.Popen([CRATES / "console" / "out" / "console"], stdin=subprocess.PIPE, stdout=subprocess.PIPE)
+        self.process = subprocess.Popen([PROGRAMS / "console"], stdin=subprocess.PIPE, stdout=subprocess.PIPE)
 
     def ask(self, lines):
         """The answers to these lines; fewer where the console ended."""
@@ -333,7 +333,7 @@ def is_shaped(output, head, pair):
 def fuzz_archive(program, archive, tally):
     """Hands an archive to `list` or `describe`."""
     tally.asked[program + ": archives"] += 1
-    run = subprocess.run([CRATES / program / "out" / program], input=archive, capture_output=True, timeout=PATIENCE)
+    run = subprocess.run([PROGRAMS / program], input=archive, capture_output=True, timeout=PATIENCE)
     output = run.stdout.decode("latin-1")
     try:
         known = model.few(*(state for state, _ in rules.read_archive(archive)))
