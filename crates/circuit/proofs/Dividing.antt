@@ -171,10 +171,10 @@ worth-kind false t s x w = (w.kind, λ o. let (a, e, h) = w.range o in (8288 - a
     lifted a h = omega (arith, ints)
 
 -- every division that counts has the value of one of them
-pub every-division : (calls : List Call) (place : ℕ) (s t : StabilizerState) → t.qubits ≡ s.qubits
+pub every_division : (calls : List Call) (place : ℕ) (s t : StabilizerState) → t.qubits ≡ s.qubits
     → (d : Division calls place s t) (x : Triple)
     → Valued d x → EveryDivision calls s t x
-every-division calls place s t e d x w place' d' y w' =
+every_division calls place s t e d x w place' d' y w' =
     let (k, f) = worth-kind _ _ _ x w.worth in
     let (k', f') = worth-kind _ _ _ y w'.worth in
     scaled-same 8288 y x k' k f' f ((weights-factor s.qubits calls).cancels _ _

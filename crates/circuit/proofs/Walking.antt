@@ -1,116 +1,98 @@
--- Runs made one call after another, with the refusals that they meet.
-use Rattle.std.proofs.Common.{◌≡◌, ℕ, zero, suc, ◌+◌, ◌<◌, ◌≤◌, Bool, true, false, ◌||◌, eqb, List, [], ◌∷◌, ◌++◌, map, length, get_or, take, drop, Some, None, Option, sym, refl, ap, ◌∙◌, subst, ap₂, inl, inr, le_refl, arith}
-use mathlib.Core.List.{map-append}
-use Rattle.std.proofs.lemmas.List.{take_more, drop_more, take_all, drop_all, take-map, drop-map}
-use Rattle.std.proofs.lemmas.Bool.{cases_lt}
-use Rattle.cyclotomic.specs.Scalars.{Triple}
+-- Runs made one call after another, with the gravest refusal that they meet.
+use Rattle.std.proofs.Common.{◌≡◌, ℕ, zero, suc, ◌<◌, Bool, true, false, cond, ◌||◌, eqb, List, [], ◌∷◌, ◌++◌, map, take, drop, reverse, Some, None, Option, sym, refl, ap, ◌∙◌, subst, ap₂, arith}
+use mathlib.Core.List.{map-append, reverse-cons}
+use Rattle.std.proofs.lemmas.Iterator.{YieldsList, items_from_drains}
+use Rattle.std.proofs.lemmas.List.{take-map, drop-map}
+use Rattle.std.specs.Ordering.{ord_max}
+use Rattle.cyclotomic.specs.Scalars.{Triple, nought, triple_of}
+use Rattle.cyclotomic.specs.declared.scalar.Scalar.{Scalar}
 use Rattle.stabilizer.specs.Calls.{Call, gate, project, Step, AppliedBy, ProjectedBy, Projected, impossible, exhausted, kept, halved}
 use Rattle.stabilizer.specs.Gates.{gate_numbered}
+use Rattle.stabilizer.specs.Overlaps.{IsOverlap, sizes_number}
 use Rattle.stabilizer.specs.Paulis.{Pauli, pauli_of, text_number}
 use Rattle.stabilizer.specs.declared.gate.Gate.{Gate}
 use Rattle.stabilizer.specs.declared.state.StabilizerState.{StabilizerState}
-use Rattle.circuit.specs.Made.{call_of}
-use Rattle.circuit.specs.Runs.{Run, done, next, among, inverse, backwards, Division, answers, Worth, Valued, EveryDivision}
-use Rattle.circuit.specs.Splits.{Ran}
+use Rattle.circuit.specs.Made.{call_of, lent_call}
+use Rattle.circuit.specs.Runs.{Run, done, next, among, inverse, backwards, Division, answers, Worth, Valued, OneValue}
+use Rattle.circuit.specs.Splits.{Ran, Made, Divides, Comes, gravest}
 use Rattle.circuit.specs.declared.call.Call.{Call as Held}
+use Rattle.circuit.specs.declared.call.CallRef.{CallRef}
 use Rattle.circuit.specs.declared.division.Met.{Met}
-use Rattle.circuit.proofs.Dividing.{run_more, among-append, every-division}
+use Rattle.circuit.specs.declared.division.Met.TheVariants.{Neither, Impossible, Exhausted}
+use Rattle.circuit.specs.contracts.division.MetOrd.TheImpl.{cmp-value}
+use Rattle.circuit.proofs.Dividing.{run_more, among-append, every_division}
 use Rattle.circuit.proofs.Ideal.{backwards-cons}
 
-pub walked_none : (calls : List Call) (s : StabilizerState) → calls ≡ [] → Ran calls s (record { impossible = false; exhausted = false }) s
-walked_none calls s e = subst (λ cs. Ran cs s (record { impossible = false; exhausted = false }) s) (sym e) (record {
-  answers = [];
-  run = done;
-  impossible = refl;
-  exhausted = refl;
-})
+-- the graver of what was met twice is the gravest of all
+pub graver : (i e i' e' : Bool) → ord_max cmp-value.it (gravest i e) (gravest i' e') ≡ gravest (i || i') (e || e')
+graver false false i' e' = least i' e'
+  where
+    least : (i e : Bool) → ord_max cmp-value.it Neither (gravest i e) ≡ gravest i e
+    least i true = refl
+    least true false = refl
+    least false false = refl
+graver true false false false = refl
+graver true false true false = refl
+graver true false i' true = refl
+graver i true i' true = refl
+graver i true true false = refl
+graver i true false false = refl
 
--- whether a number is among the answers, with one more
-among-more : (a b : ℕ) (xs : List ℕ) (before after : Bool) → before ≡ among a xs → after ≡ before || eqb b a
-    → after ≡ among a (xs ++ (b ∷ []))
-among-more a b xs before after e f =
-    f ∙ ap₂ ◌||◌ e (sym (or-none (eqb b a))) ∙ sym (among-append a xs (b ∷ []))
+pub walked_none : (s : StabilizerState) → Ran [] s Neither s
+walked_none s = record { answers = []; run = done; gravest = refl }
+
+-- one call more, at the end of those that were made
+pub walked_more : (made : List CallRef) (c : CallRef) (s s' s'' : StabilizerState) (met : Met) (a : ℕ) → Ran (map lent_call made) s met s'
+    → Step (lent_call c) s' a s''
+    → Ran (map lent_call (made ++ (c ∷ []))) s (ord_max cmp-value.it met (gravest (eqb a 21) (eqb a 22))) s''
+walked_more made c s s' s'' met a h step =
+    subst (λ cs. Ran cs s (ord_max cmp-value.it met (gravest (eqb a 21) (eqb a 22))) s'') (sym (map-append lent_call made (c ∷ []))) (record {
+      answers = h.answers ++ (a ∷ []);
+      run = run_more h.run (lent_call c) a s'' step;
+      gravest = ap (λ m. ord_max cmp-value.it m (gravest (eqb a 21) (eqb a 22))) h.gravest
+          ∙ graver (among 21 h.answers) (among 22 h.answers) (eqb a 21) (eqb a 22)
+          ∙ ap₂ gravest (more 21) (more 22);
+    })
   where
     or-none : (p : Bool) → p || false ≡ p
     or-none true = refl
     or-none false = refl
 
--- one call more
-pub walked_more : (calls : List Call) (c : Call) (s s' s'' : StabilizerState) (met met' : Met) (a : ℕ) → Ran calls s met s'
-    → Step c s' a s''
-    → met'.impossible ≡ met.impossible || eqb a 21 → met'.exhausted ≡ met.exhausted || eqb a 22 → Ran (calls ++ (c ∷ [])) s met' s''
-walked_more calls c s s' s'' met met' a h step i e = record {
-  answers = h.answers ++ (a ∷ []);
-  run = run_more h.run c a s'' step;
-  impossible = among-more 21 a h.answers met.impossible met'.impossible h.impossible i;
-  exhausted = among-more 22 a h.answers met.exhausted met'.exhausted h.exhausted e;
-}
+    more : (b : ℕ) → among b h.answers || eqb a b ≡ among b (h.answers ++ (a ∷ []))
+    more b = sym (among-append b h.answers (a ∷ []) ∙ ap (◌||◌ (among b h.answers)) (or-none (eqb a b)))
 
--- the calls before the next place
-pub front-more : (xs : List Held) (i : ℕ) (x : Held) → i < length xs → x ≡ get_or xs i x
-    → map call_of (take i xs) ++ (call_of x ∷ []) ≡ map call_of (take (i + 1) xs)
-front-more xs i x l e =
-    sym (map-append call_of (take i xs) (x ∷ [])) ∙ ap (λ y. map call_of (take i xs ++ (y ∷ []))) e
-    ∙ ap (map call_of) (sym (take_more xs i x l))
+-- the calls that were made are those that the iterator gives
+pub walked-all : {I : Type 0} {steps : I → Option CallRef → I → Type 0} {calls : I} {all : List Call} (s : StabilizerState) (met : Met)
+    (s' : StabilizerState) → Made steps calls s met s' → YieldsList steps lent_call calls all → Ran all s met s'
+walked-all s met s' (made, (u, (t, yields, last)), ran) y =
+    subst (λ cs. Ran cs s met s') (items_from_drains made (t, yields, λ _. (u, last)) y) ran
 
--- the calls from a place on, backwards
-pub back_more : (xs : List Held) (i : ℕ) (x : Held) → i < length xs → x ≡ get_or xs i x
-    → backwards (map call_of (drop (i + 1) xs)) ++ (inverse (call_of x) ∷ []) ≡ backwards (map call_of (drop i xs))
-back_more xs i x l e =
-    sym (backwards-cons (call_of x) (map call_of (drop (i + 1) xs)))
-    ∙ ap (λ ys. backwards (map call_of ys)) (ap (λ y. y ∷ drop (i + 1) xs) e ∙ sym (drop_more xs i x l))
+-- the calls of a slice from the last to the first, each inverted
+pub backwards-map : (xs : List Held) → map (λ x. inverse (call_of x)) (reverse xs) ≡ backwards (map call_of xs)
+backwards-map [] = refl
+backwards-map (x ∷ xs) =
+    ap (map (λ y. inverse (call_of y))) (reverse-cons x xs) ∙ map-append (λ y. inverse (call_of y)) (reverse xs) (x ∷ [])
+    ∙ ap (λ cs. cs ++ (inverse (call_of x) ∷ [])) (backwards-map xs) ∙ sym (backwards-cons (call_of x) (map call_of xs))
 
--- ---- where a list is cut
+-- ---- two runs make a division
 
--- a place past the end cuts as the end does
-module _ (xs : List Held) (place k : ℕ) (inside : place < length xs → k ≡ place) (past : length xs ≤ place → k ≡ length xs) where
-  same-front : take k xs ≡ take place xs
-  same-front = elim (cases_lt place (length xs)) [
-    | inl l ↦ ap (λ i. take i xs) (inside l)
-    | inr g ↦ ap (λ i. take i xs) (past g) ∙ take_all (length xs) xs (le_refl (length xs)) ∙ sym (take_all place xs g)
-  ]
-
-  same_rest : drop k xs ≡ drop place xs
-  same_rest = elim (cases_lt place (length xs)) [
-    | inl l ↦ ap (λ i. drop i xs) (inside l)
-    | inr g ↦ ap (λ i. drop i xs) (past g) ∙ drop_all (length xs) xs (le_refl (length xs)) ∙ sym (drop_all place xs g)
-  ]
-
-  -- two runs make a division
-  abbrev divided : (s t s' t' : StabilizerState) (m m' : Met) → Ran (map call_of (take k xs)) s m s'
-      → Ran (backwards (map call_of (drop k xs))) t m' t' → Division (map call_of xs) place s t
-  divided s t s' t' m m' f b = record {
+pub divides : (xs : List Held) (place : ℕ) (s t s' t' : StabilizerState) (m m' : Met) → Ran (map call_of (take place xs)) s m s'
+    → Ran (backwards (map call_of (drop place xs))) t m' t' → Divides (map call_of xs) place s t (ord_max cmp-value.it m m') s' t'
+divides xs place s t s' t' m m' f b = record {
+  division = record {
     answers_s = f.answers;
     answers_t = b.answers;
     end_s = s';
     end_t = t';
-    forward = subst (λ cs. Run cs s f.answers s') (ap (map call_of) same-front ∙ sym (take-map call_of place xs)) f.run;
-    backward = subst (λ cs. Run (backwards cs) t b.answers t') (ap (map call_of) same_rest ∙ sym (drop-map call_of place xs)) b.run;
-  }
-
-  -- what both runs met is what the division meets
-  module _ (s t s' t' : StabilizerState) (m m' met : Met) (f : Ran (map call_of (take k xs)) s m s')
-      (b : Ran (backwards (map call_of (drop k xs))) t m' t') (i : met.impossible ≡ m.impossible || m'.impossible)
-      (e : met.exhausted ≡ m.exhausted || m'.exhausted) where
-    met-both : (a : ℕ) (p q r : Bool) → p ≡ among a f.answers → q ≡ among a b.answers → r ≡ p || q
-        → among a (f.answers ++ b.answers) ≡ r
-    met-both a p q r g h w = among-append a f.answers b.answers ∙ ap₂ ◌||◌ (sym g) (sym h) ∙ sym w
-
-    exhausted-is : among 22 (f.answers ++ b.answers) ≡ met.exhausted
-    exhausted-is = met-both 22 m.exhausted m'.exhausted met.exhausted f.exhausted b.exhausted e
-
-    impossible-is : among 21 (f.answers ++ b.answers) ≡ met.impossible
-    impossible-is = met-both 21 m.impossible m'.impossible met.impossible f.impossible b.impossible i
-
-    pub comes-aside : met.exhausted ≡ true → (d : Division (map call_of xs) place s t) × (among 22 (answers d) ≡ true)
-    comes-aside h = (divided s t s' t' m m' f b, exhausted-is ∙ h)
-
-    pub comes-value : (x : Triple) → t.qubits ≡ s.qubits → met.exhausted ≡ false → Worth met.impossible t' s' x
-        → (d : Division (map call_of xs) place s t) × (Valued d x × EveryDivision (map call_of xs) s t x)
-    comes-value x q h w =
-        let d = divided s t s' t' m m' f b in
-        let v : Valued d x = record { counts = exhausted-is ∙ h; worth = subst (λ p. Worth p t' s' x) (sym impossible-is) w } in
-        (d, (v, every-division (map call_of xs) place s t q d x v))
+    forward = subst (λ cs. Run cs s f.answers s') (sym (take-map call_of place xs)) f.run;
+    backward = subst (λ cs. Run (backwards cs) t b.answers t') (sym (drop-map call_of place xs)) b.run;
+  };
+  end_s = refl;
+  end_t = refl;
+  gravest = ap₂ (ord_max cmp-value.it) f.gravest b.gravest
+      ∙ graver (among 21 f.answers) (among 22 f.answers) (among 21 b.answers) (among 22 b.answers)
+      ∙ ap₂ gravest (sym (among-append 21 f.answers b.answers)) (sym (among-append 22 f.answers b.answers));
+}
 
 -- a run keeps the number of qubits
 step-qubits : (c : Call) (s : StabilizerState) (a : ℕ) (s' : StabilizerState) → Step c s a s' → s'.qubits ≡ s.qubits
@@ -136,6 +118,61 @@ step-qubits (project text) s a s' h = go (text_number s.qubits text) (pauli_of t
     go zero None h = absurd h
     go (suc k) o h = ap (λ x. x.qubits) h.1
 
-pub run-qubits : {calls : List Call} {s s' : StabilizerState} {xs : List ℕ} → Run calls s xs s' → s'.qubits ≡ s.qubits
+run-qubits : {calls : List Call} {s s' : StabilizerState} {xs : List ℕ} → Run calls s xs s' → s'.qubits ≡ s.qubits
 run-qubits done = refl
 run-qubits (next {c = c} {s = s} {s' = s'} {a = a} h r) = run-qubits r ∙ step-qubits c s a s' h
+
+-- ---- what a division comes to, by the gravest refusal
+
+-- the value of two states, by the gravest refusal
+abbrev WorthBy : Met → StabilizerState → StabilizerState → Triple → Type 0
+WorthBy Exhausted t s x = ⊥
+WorthBy Impossible t s x = x ≡ nought
+WorthBy Neither t s x = IsOverlap t s x
+
+module _ {calls : List Call} {place : ℕ} {s t s' t' : StabilizerState} {met : Met} (h : Divides calls place s t met s' t') where
+  pub comes_aside : met ≡ Exhausted → (d : Division calls place s t) × Comes None d
+  comes_aside e = (h.division, sym (exhausts_gravest _ _) ∙ ap exhausts (sym h.gravest ∙ e))
+    where
+      exhausts : Met → Bool
+      exhausts Exhausted = true
+      exhausts Impossible = false
+      exhausts Neither = false
+
+      exhausts_gravest : (i e : Bool) → exhausts (gravest i e) ≡ e
+      exhausts_gravest i true = refl
+      exhausts_gravest true false = refl
+      exhausts_gravest false false = refl
+
+  comes_value : (x : Scalar) → t.qubits ≡ s.qubits → WorthBy met t' s' (triple_of x) → (d : Division calls place s t) × Comes (Some x) d
+  comes_value x q w =
+      let d = h.division in
+      let (counts, worth) = valued _ _ (subst (λ m. WorthBy m t' s' (triple_of x)) h.gravest w) in
+      let v : Valued d (triple_of x) = record {
+        counts = counts;
+        worth = subst (λ k. Worth (among 21 (answers d)) k d.end_s (triple_of x)) h.end_t
+            (subst (λ k. Worth (among 21 (answers d)) t' k (triple_of x)) h.end_s worth);
+      } in
+      (d, (v, every_division calls place s t q d (triple_of x) v))
+    where
+      valued : (i e : Bool) → WorthBy (gravest i e) t' s' (triple_of x) → (e ≡ false) × Worth i t' s' (triple_of x)
+      valued i true w = absurd w
+      valued true false w = (refl, w)
+      valued false false w = (refl, w)
+
+  pub comes_nought : (x : Scalar) → t.qubits ≡ s.qubits → met ≡ Impossible → triple_of x ≡ nought
+      → (d : Division calls place s t) × Comes (Some x) d
+  comes_nought x q e w = comes_value x q (subst (λ m. WorthBy m t' s' (triple_of x)) (sym e) w)
+
+  pub comes_overlap : (x : Scalar) → t.qubits ≡ s.qubits → met ≡ Neither → IsOverlap t' s' (triple_of x)
+      → (d : Division calls place s t) × Comes (Some x) d
+  comes_overlap x q e w = comes_value x q (subst (λ m. WorthBy m t' s' (triple_of x)) (sym e) w)
+
+  pub same_sizes : sizes_number t' s' ≡ sizes_number t s
+  same_sizes =
+      ap₂ (λ n m. cond (eqb n m) 0 23) (ap (λ k. k.qubits) h.end_t ∙ run-qubits h.division.backward)
+      (ap (λ k. k.qubits) h.end_s ∙ run-qubits h.division.forward)
+
+-- whatever one call answers, all divisions that count have one value
+pub one_value : (calls : List Held) (s t : StabilizerState) → t.qubits ≡ s.qubits → OneValue (map call_of calls) s t
+one_value calls s t q place d x v = every_division (map call_of calls) place s t q d x v

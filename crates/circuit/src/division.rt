@@ -1,71 +1,46 @@
-ghost use Rattle.std.specs.Prelude.{◌≡◌, ◌<◌, ◌≤◌, Bool, ◌||◌, map, ◌==◌};
+ghost use Rattle.std.specs.Prelude.{◌≡◌, map, ◌==◌};
+ghost use Rattle.std.specs.Iterator.{IsFinite};
 ghost use Rattle.cyclotomic.specs.Refusals.{answer_of};
 ghost use Rattle.stabilizer.specs.Overlaps.{sizes_number};
 ghost use Rattle.circuit.specs.Made.{call_of};
-ghost use Rattle.circuit.specs.Runs.{backwards, OneValue};
-ghost use Rattle.circuit.specs.Splits.{Ran, Divided};
+ghost use Rattle.circuit.specs.Runs.{OneValue};
+ghost use Rattle.circuit.specs.Splits.{Made, Divided, Divides, gravest};
 
-use crate::call::Call;
+use crate::call::{Call, CallRef};
 use cyclotomic::refusal::Refusal;
 use cyclotomic::scalar::Scalar;
 use stabilizer::overlap::overlap;
 use stabilizer::state::StabilizerState;
 
-// What a division of a list of calls comes to.
-#[derive(Clone, Copy)]
-pub enum SplitValue {
-    // the overlap, or 0 where a projection was impossible
-    Value(Scalar),
-    // a projection found the weight exhausted, so the division does not count
-    Aside,
+// The gravest refusal of a projection that a run has met.
+#[derive(Clone, Copy, PartialEq, Eq, PartialOrd, Ord)]
+pub(crate) enum Met {
+    Neither,
+    Impossible,
+    Exhausted,
 }
 
-// Which refusals of projections a run has met.
-#[derive(Clone, Copy)]
-pub(crate) struct Met {
-    impossible: bool,
-    exhausted: bool,
-}
+impl From<Result<(), Refusal>> for Met {
+    ghost from_gives = { λ answer met. met ≡ gravest (answer_of answer == 21) (answer_of answer == 22) };
 
-impl Met {
-    // One answer more.
-    fn with(self, answer: Result<(), Refusal>) -> Met
-        ensures impossible { result.impossible ≡ self.impossible || (answer_of answer == 21) }
-        ensures exhausted { result.exhausted ≡ self.exhausted || (answer_of answer == 22) }
-    {
+    fn from(answer: Result<(), Refusal>) -> Met {
         match answer {
-            Err(Refusal::Impossible) => Met {
-                impossible: true,
-                exhausted: self.exhausted,
-            },
-            Err(Refusal::Exhausted) => Met {
-                impossible: self.impossible,
-                exhausted: true,
-            },
-            _ => self,
-        }
-    }
-
-    // What either of two runs has met.
-    fn or(self, other: Met) -> Met
-        ensures impossible { result.impossible ≡ self.impossible || other.impossible }
-        ensures exhausted { result.exhausted ≡ self.exhausted || other.exhausted }
-    {
-        Met {
-            impossible: self.impossible | other.impossible,
-            exhausted: self.exhausted | other.exhausted,
+            Err(Refusal::Impossible) => Met::Impossible,
+            Err(Refusal::Exhausted) => Met::Exhausted,
+            _ => Met::Neither,
         }
     }
 }
 
 // Divides the calls at a place: s gets those before it, and t the others, from the last to the first and inverted. A place past the
-// end counts as the end.
+// end counts as the end. It comes to the overlap, or 0 where a projection was impossible; to nothing where a projection found the weight
+// exhausted, so that the division does not count.
 pub fn split(
     s: &StabilizerState,
     t: &StabilizerState,
     calls: &[Call],
     place: u64,
-) -> Result<SplitValue, Refusal>
+) -> Result<Option<Scalar>, Refusal>
     ensures number { answer_of result ≡ sizes_number t.now s.now }
     ensures value { Divided result (map call_of calls.now) place s.now t.now }
     ensures one_value { t.now.qubits ≡ s.now.qubits → OneValue (map call_of calls.now) s.now t.now }
@@ -73,59 +48,34 @@ pub fn split(
     if t.qubits() != s.qubits() {
         return Err(Refusal::Sizes);
     }
-    let cut = cut(place, calls.len());
     let mut left = *s;
     let mut right = *t;
-    let first = forward(&mut left, &calls[..cut]);
-    let second = backward(&mut right, &calls[cut..]);
-    let met = first.or(second);
-    if met.exhausted {
-        return Ok(SplitValue::Aside);
+    match divide(&mut left, &mut right, calls, place) {
+        Met::Exhausted => Ok(None),
+        Met::Impossible => Ok(Some(Scalar::zero())),
+        Met::Neither => Ok(Some(overlap(&right, &left)?)),
     }
-    if met.impossible {
-        return Ok(SplitValue::Value(Scalar::zero()));
-    }
-    Ok(SplitValue::Value(overlap(&right, &left)?))
 }
 
-// A place in a list of so many calls, the end for one past it.
-fn cut(place: u64, len: usize) -> usize
-    ensures inside { place < len → result ≡ place }
-    ensures past { len ≤ place → result ≡ len }
+// Makes the calls before the place on s, and the inverses of the others, from the last to the first, on t.
+fn divide(s: &mut StabilizerState, t: &mut StabilizerState, calls: &[Call], place: u64) -> Met
+    ensures { Divides (map call_of calls.now) place s.old t.old result s.new t.new }
 {
-    if place < len as u64 {
-        place as usize
-    } else {
-        len
-    }
+    let (before, after) = calls.split_at(place.min(calls.len() as u64) as usize);
+    let first = run(s, before.iter().map(|call| call.lent()));
+    let second = run(t, after.iter().rev().map(|call| call.lent().inverse()));
+    first.max(second)
 }
 
 // Makes the calls one after another.
-fn forward(state: &mut StabilizerState, calls: &[Call]) -> Met
-    ensures { Ran (map call_of calls.now) state.old result state.new }
+fn run<'a, I: Iterator<Item = CallRef<'a>>>(state: &mut StabilizerState, calls: I) -> Met
+    requires can { I.can_next calls }
+    requires ends { IsFinite (I.remaining calls) }
+    ensures { Made I.next_gives calls state.old result state.new }
 {
-    let mut met = Met {
-        impossible: false,
-        exhausted: false,
-    };
+    let mut met = Met::Neither;
     for call in calls {
-        met = met.with(call.make(state));
-    }
-    met
-}
-
-// Makes the inverses of the calls, from the last to the first.
-fn backward(state: &mut StabilizerState, calls: &[Call]) -> Met
-    ensures { Ran (backwards (map call_of calls.now)) state.old result state.new }
-{
-    let mut met = Met {
-        impossible: false,
-        exhausted: false,
-    };
-    let mut i = calls.len();
-    while i > 0 {
-        i -= 1;
-        met = met.with(calls[i].make_inverse(state));
+        met = met.max(Met::from(call.make(state)));
     }
     met
 }

@@ -1,10 +1,8 @@
 -- What an answer says of what a call of a library answered.
-use Rattle.std.specs.Prelude.{◌≡◌, Ok, Err, Result}
+use Rattle.std.specs.Prelude.{◌≡◌, Ok, Err, Result, Some, None, Option}
 use Rattle.archive.specs.Faults.{Report, archive_report}
 use Rattle.archive.specs.declared.container.Denial.{Denial}
 use Rattle.archive.specs.declared.container.Denial.TheVariants.{Fault as OfArchive, Refused as OfCall}
-use Rattle.circuit.specs.declared.division.SplitValue.{SplitValue}
-use Rattle.circuit.specs.declared.division.SplitValue.TheVariants.{Value as Counts, Aside as Apart}
 use Rattle.cyclotomic.specs.Modular.{Below, Quad, seventeen, quads}
 use Rattle.cyclotomic.specs.Ring.{Ops}
 use Rattle.cyclotomic.specs.declared.refusal.Refusal.{Refusal}
@@ -33,9 +31,9 @@ abbrev pub scalar_answer : Result Scalar Refusal → Answer
 scalar_answer (Ok x) = Shows x
 scalar_answer (Err e) = Refused e
 
-abbrev pub split_answer : Result SplitValue Refusal → Answer
-split_answer (Ok (Counts x)) = Shows x
-split_answer (Ok Apart) = Aside
+abbrev pub split_answer : Result (Option Scalar) Refusal → Answer
+split_answer (Ok (Some x)) = Shows x
+split_answer (Ok None) = Aside
 split_answer (Err e) = Refused e
 
 -- the answer for a fault, and for what denies a state of an archive

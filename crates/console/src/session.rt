@@ -10,7 +10,7 @@ use crate::answer::{Answer, RingValue};
 use crate::command::{Command, Name, Operands, RingName};
 use archive::container::Denial;
 use archive::{codec, container};
-use circuit::division::{SplitValue, split};
+use circuit::division::split;
 use cyclotomic::embedding::embed;
 use cyclotomic::mod17::Mod17;
 use cyclotomic::quads::Cyclotomic64;
@@ -243,14 +243,12 @@ fn of_scalar(res: Result<Scalar, Refusal>) -> Answer
     }
 }
 
-fn of_split(res: Result<SplitValue, Refusal>) -> Answer
+fn of_split(res: Result<Option<Scalar>, Refusal>) -> Answer
     ensures { result ≡ split_answer res }
 {
     match res {
-        Ok(value) => match value {
-            SplitValue::Value(scalar) => Answer::Scalar(scalar),
-            SplitValue::Aside => Answer::Aside,
-        },
+        Ok(Some(scalar)) => Answer::Scalar(scalar),
+        Ok(None) => Answer::Aside,
         Err(refusal) => Answer::Refused(refusal),
     }
 }

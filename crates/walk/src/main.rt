@@ -3,8 +3,7 @@
 #![tactic(auto)]
 
 use circuit::call::Call;
-use circuit::division::{SplitValue, split};
-use cyclotomic::scalar::Scalar;
+use circuit::division::split;
 use listing::text::ScalarText;
 use stabilizer::state::StabilizerState;
 
@@ -22,28 +21,19 @@ fn main(rt: HostRuntime) -> anyhow::Result<()> {
     let mut first = None;
     for place in 0..=calls.len() as u64 {
         match split(&s, &t, &calls, place) {
-            Ok(value) => match value {
-                SplitValue::Value(scalar) => {
-                    let mark = mark_beside(scalar, &mut first);
-                    println!(rt; "{place}: {} {mark}", ScalarText(scalar))?;
-                }
-                SplitValue::Aside => println!(rt; "{place}: aside")?,
-            },
+            Ok(Some(scalar)) => {
+                let mark = if first.get_or_insert(scalar).same(&scalar) {
+                    "="
+                } else {
+                    "."
+                };
+                println!(rt; "{place}: {} {mark}", ScalarText(scalar))?;
+            }
+            Ok(None) => println!(rt; "{place}: aside")?,
             Err(refusal) => println!(rt; "{place}: refused {}", refusal.number())?,
         }
     }
     Ok(())
-}
-
-// Whether a value is the first one, which is kept.
-fn mark_beside(scalar: Scalar, first: &mut Option<Scalar>) -> &'static str {
-    match *first {
-        Some(kept) => { if kept.same(&scalar) { "=" } else { "." } }
-        None => {
-            *first = Some(scalar);
-            "="
-        }
-    }
 }
 
 // Three qubits are entangled, turned, and taken apart again; the call that no qubit fits counts as none.
