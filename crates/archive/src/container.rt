@@ -3,12 +3,12 @@ ghost use Rattle.std.specs.Prelude.{◌≡◌, ◌+◌, ◌-◌, ◌*◌, ◌/�
 ghost use Rattle.archive.specs.First.{Faultless, First};
 ghost use Rattle.archive.specs.Held.{Holds};
 ghost use Rattle.archive.specs.Layout.{state_fault};
-ghost use Rattle.archive.specs.declared.container.Denial.TheVariants.{Fault};
-ghost use Rattle.archive.specs.Denials.{denied};
+ghost use Rattle.archive.specs.declared.container.Denial.TheVariants.{Fault, Refused};
+ghost use Rattle.archive.specs.Denials.{denial_number, denied};
 ghost use Rattle.archive.specs.Archives.{count_of, place_after, states_fault, archive_verdicts, archive_fault, part_of};
 
 use crate::build::build;
-use crate::fault::{ArchiveFault, BitsFault, Field};
+use crate::fault::{ArchiveFault, BitsFault, Field, StateFault};
 use crate::layout::state_end;
 use cyclotomic::refusal::Refusal;
 use stabilizer::state::StabilizerState;
@@ -16,18 +16,46 @@ use stabilizer::state::StabilizerState;
 // How many states an archive may have.
 const MOST_STATES: usize = 100;
 
-// Why a state of an archive was denied: the archive's fault, or else a refusal.
+// Why what was asked for is denied: bytes with a fault, of the kind F, or else a refusal.
 #[derive(Clone, Copy, Debug, PartialEq, Eq)]
-pub enum Denial {
-    Fault(ArchiveFault),
+pub enum Denial<F> {
+    Fault(F),
     Refused(Refusal),
 }
 
-impl From<ArchiveFault> for Denial {
+impl From<StateFault> for Denial<StateFault> {
     ghost from_gives = { λ f r. r ≡ Fault f };
 
-    fn from(fault: ArchiveFault) -> Denial {
+    fn from(fault: StateFault) -> Denial<StateFault> {
         Denial::Fault(fault)
+    }
+}
+
+impl From<ArchiveFault> for Denial<ArchiveFault> {
+    ghost from_gives = { λ f r. r ≡ Fault f };
+
+    fn from(fault: ArchiveFault) -> Denial<ArchiveFault> {
+        Denial::Fault(fault)
+    }
+}
+
+impl<F> From<Refusal> for Denial<F> {
+    ghost from_gives = { λ e r. r ≡ Refused e };
+
+    fn from(refusal: Refusal) -> Denial<F> {
+        Denial::Refused(refusal)
+    }
+}
+
+impl Denial<StateFault> {
+    // The number that stands for it.
+    pub fn number(self) -> u64
+        ensures { result ≡ denial_number self }
+    {
+        match self {
+            Denial::Fault(fault) => fault.number(),
+            Denial::Refused(refusal) => refusal.number(),
+        }
     }
 }
 
@@ -84,7 +112,7 @@ pub fn check(archive: &[u8]) -> Result<u64, ArchiveFault>
 }
 
 // Checks a whole archive, and answers the bytes from which on and up to which its state with the number stands.
-fn locate(archive: &[u8], i: u64) -> Result<(usize, usize), Denial>
+fn locate(archive: &[u8], i: u64) -> Result<(usize, usize), Denial<ArchiveFault>>
     ensures { MatchResult result (λ s. (denied archive.now i ≡ None) × (8 * s.0 ≡ place_after archive.now (i - 1))
         × (8 * s.1 ≡ place_after archive.now i) × (s.0 ≤ s.1) × (s.1 ≤ length archive.now) × (s.0 ≤ 2 ^ 20)
         × (state_fault archive.now (place_after archive.now (i - 1)) ≡ None))
@@ -101,7 +129,7 @@ fn locate(archive: &[u8], i: u64) -> Result<(usize, usize), Denial>
 }
 
 // The part of an archive that is its state with the number.
-pub fn view<'a>(archive: &'a [u8], i: u64) -> Result<&'a [u8], Denial>
+pub fn view<'a>(archive: &'a [u8], i: u64) -> Result<&'a [u8], Denial<ArchiveFault>>
     ensures { MatchResult result (λ part. (denied archive.now i ≡ None) × (part.now ≡ part_of archive.now i))
         (λ d. denied archive.now i ≡ Some d) }
 {
@@ -112,7 +140,7 @@ pub fn view<'a>(archive: &'a [u8], i: u64) -> Result<&'a [u8], Denial>
 }
 
 // Reads the state with the number from an archive; denied, the state stays as it was.
-pub fn take(state: &mut StabilizerState, archive: &[u8], i: u64) -> Result<(), Denial>
+pub fn take(state: &mut StabilizerState, archive: &[u8], i: u64) -> Result<(), Denial<ArchiveFault>>
     ensures verdict { MatchResult result (λ _. denied archive.now i ≡ None) (λ d. denied archive.now i ≡ Some d) }
     ensures state { MatchResult result (λ _. Holds archive.now (place_after archive.now (i - 1)) state.new)
         (λ _. state.new ≡ state.old) }

@@ -3,52 +3,17 @@
 
 ghost use Rattle.std.specs.Prelude.{◌≡◌, ℕ, ◌<◌, ◌≤◌, length, IfOk, Some, None, MatchResult, slice_index};
 ghost use Rattle.cyclotomic.specs.Scalars.{triple_of};
-ghost use Rattle.host.specs.declared.Denial.TheVariants.{Fault, Refused};
-ghost use Rattle.host.specs.Answers.{denial_number, pair_denial, pair_number, entry_number, word_of, bytes_of, Overlapped, Answered};
+ghost use Rattle.archive.specs.Denials.{denial_number};
+ghost use Rattle.host.specs.Answers.{pair_denial, pair_number, entry_number, word_of, bytes_of, Overlapped, Answered};
 
 use archive::codec::read;
+use archive::container::Denial;
 use archive::fault::StateFault;
-use cyclotomic::refusal::Refusal;
 use cyclotomic::scalar::Scalar;
 use stabilizer::state::StabilizerState;
 
-// Why there is no overlap.
-#[derive(Clone, Copy)]
-pub enum Denial {
-    Fault(StateFault),
-    Refused(Refusal),
-}
-
-impl From<StateFault> for Denial {
-    ghost from_gives = { λ f r. r ≡ Fault f };
-
-    fn from(fault: StateFault) -> Denial {
-        Denial::Fault(fault)
-    }
-}
-
-impl From<Refusal> for Denial {
-    ghost from_gives = { λ e r. r ≡ Refused e };
-
-    fn from(refusal: Refusal) -> Denial {
-        Denial::Refused(refusal)
-    }
-}
-
-impl Denial {
-    // The number that stands for it.
-    pub fn number(self) -> u64
-        ensures { result ≡ denial_number self }
-    {
-        match self {
-            Denial::Fault(fault) => fault.number(),
-            Denial::Refused(refusal) => refusal.number(),
-        }
-    }
-}
-
 // The overlap of the states that two runs of bytes hold.
-pub fn overlap_of(t: &[u8], s: &[u8]) -> Result<Scalar, Denial>
+pub fn overlap_of(t: &[u8], s: &[u8]) -> Result<Scalar, Denial<StateFault>>
     ensures number { MatchResult result (λ _. pair_number t.now s.now ≡ 0) (λ d. denial_number d ≡ pair_number t.now s.now) }
     ensures denial { MatchResult result (λ _. pair_denial t.now s.now ≡ None) (λ d. pair_denial t.now s.now ≡ Some d) }
     ensures value { IfOk result (Overlapped t.now s.now) }

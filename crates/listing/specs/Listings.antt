@@ -1,7 +1,7 @@
 -- What is written of a whole archive.
 use Rattle.std.specs.Prelude.{◌≡◌, ℕ, List, ◌++◌, length, Some, None, Option, codes, decimal}
 use Rattle.archive.specs.Archives.{count_of, archive_fault}
-use Rattle.archive.specs.Faults.{archive_report}
+use Rattle.archive.specs.Faults.{archive_report, fault_text}
 use Rattle.archive.specs.Loads.{InTurn}
 use Rattle.archive.specs.declared.fault.ArchiveFault.{ArchiveFault}
 use Rattle.cyclotomic.specs.Refusals.{answer_of}
@@ -11,7 +11,7 @@ use Rattle.listing.specs.Fields.{state_lines}
 use Rattle.listing.specs.Lines.{outcome_number, Tells}
 use Rattle.listing.specs.Pairs.{IsPair, Lines}
 use Rattle.listing.specs.Written.{ended}
-use Rattle.listing.specs.Texts.{line_text, overlap_text, report_text}
+use Rattle.listing.specs.Texts.{line_text, overlap_text}
 use Rattle.listing.specs.declared.comparison.PairLine.{PairLine}
 use Rattle.listing.specs.declared.overlap_line.OverlapLine.{OverlapLine}
 
@@ -21,7 +21,7 @@ sheets_text n = ended (codes "sheets " ++ decimal n)
 
 -- the line of a fault
 abbrev pub line_of_fault : ArchiveFault → List ℕ
-line_of_fault f = ended (report_text (archive_report f))
+line_of_fault f = ended (fault_text (archive_report f))
 
 abbrev pub line_numbers : PairLine → ℕ × ℕ
 line_numbers l = (l.i, l.j)

@@ -1,20 +1,17 @@
 -- The text of each part of a listing.
 use Rattle.std.specs.Prelude.{ℕ, ◌/◌, ◌%◌, Bool, true, false, List, ◌++◌, Some, None, Ok, Err, codes, decimal, Option, Result}
 use Rattle.std.specs.Fmt.{signed_decimal}
-use Rattle.archive.specs.Faults.{Report}
 use Rattle.cyclotomic.specs.Columns.{hex_at, word_at}
 use Rattle.cyclotomic.specs.Refusals.{number_of}
 use Rattle.cyclotomic.specs.Scalars.{Triple, triple_of}
 use Rattle.cyclotomic.specs.declared.refusal.Refusal.{Refusal}
 use Rattle.cyclotomic.specs.declared.scalar.Scalar.{Scalar}
 use Rattle.listing.specs.declared.columns.Columns.{Columns}
-use Rattle.listing.specs.declared.fault_line.FaultLine.{FaultLine}
 use Rattle.listing.specs.declared.comparison.Outcome.{Outcome}
 use Rattle.listing.specs.declared.comparison.Outcome.TheVariants.{Refused, Compared}
 use Rattle.listing.specs.declared.comparison.PairLine.{PairLine}
 use Rattle.listing.specs.declared.overlap_line.OverlapLine.{OverlapLine}
 use Rattle.listing.specs.Digits.{glyphs}
-use Rattle.listing.specs.Reports.{report_of}
 
 abbrev pub triple_text : Triple → List ℕ
 triple_text x = decimal x.0 ++ (codes " " ++ (signed_decimal x.1 ++ (codes " " ++ decimal x.2)))
@@ -46,15 +43,3 @@ result_text (Err e) = codes "refused " ++ decimal (number_of e)
 -- i j ε p m, or i j refused 23
 abbrev pub overlap_text : OverlapLine → List ℕ
 overlap_text l = decimal l.i ++ (codes " " ++ (decimal l.j ++ (codes " " ++ result_text l.overlap)))
-
--- fault layer number sheet field place
-abbrev pub report_text : Report → List ℕ
-report_text r =
-    codes "fault "
-    ++ (decimal r.layer
-    ++ (codes " "
-    ++ (decimal r.number ++
-    (codes " " ++ (decimal r.sheet ++ (codes " " ++ (decimal r.field ++ (codes " " ++ decimal r.place))))))))
-
-abbrev pub fault_text : FaultLine → List ℕ
-fault_text f = report_text (report_of f)
