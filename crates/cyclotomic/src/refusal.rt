@@ -1,5 +1,8 @@
-ghost use Rattle.std.specs.Prelude.{◌≡◌};
+ghost use Rattle.std.specs.Prelude.{◌≡◌, Some};
 ghost use Rattle.cyclotomic.specs.Refusals.{number_of};
+ghost use Rattle.cyclotomic.specs.Texts.{refusal_text};
+
+use std::fmt;
 
 // Why a call was refused. A refused call changes nothing.
 #[derive(Clone, Copy, Debug, PartialEq, Eq)]
@@ -52,5 +55,13 @@ impl Refusal {
             Refusal::Finished => 24,
             Refusal::NegativePower => 25,
         }
+    }
+}
+
+impl fmt::Display for Refusal {
+    ghost output = { λ e. Some (refusal_text e) };
+
+    fn fmt<W: fmt::Write>(&self, f: &mut fmt::Formatter<W>) -> fmt::Result {
+        write!(f, "refused {}", self.number())
     }
 }

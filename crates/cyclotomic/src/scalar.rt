@@ -1,6 +1,7 @@
 ghost use Rattle.std.specs.Prelude.{◌≡◌, ℕ, ◌<◌, ℤ, pos};
 
 pub mod ops;
+pub mod text;
 pub mod values;
 
 // The number ε · 2^(power/2) · ω^turn, where ω is the eighth root of one with ω^4 = -1 and ε is 0 or 1. Where ε is 0, so are the
