@@ -8,6 +8,7 @@ use Rattle.archive.specs.Layout.{alone_fault}
 use Rattle.archive.specs.Writes.{length_of, RunOf}
 use Rattle.circuit.specs.Splits.{Divided}
 use Rattle.cyclotomic.specs.Refusals.{number_of, answer_of}
+use Rattle.cyclotomic.specs.Ring.{Ops}
 use Rattle.cyclotomic.specs.Scalars.{triple_of, Negative, embedded}
 use Rattle.cyclotomic.specs.Sum.{sum_to}
 use Rattle.cyclotomic.specs.declared.refusal.Refusal.TheVariants.{Buffer}
@@ -81,8 +82,8 @@ ShowsSame t s a = (equal : Bool) × (a ≡ Mark equal) × (T equal → SameState
 
 -- the intersection of t and s in the place of the last one, or the last one where the sizes differ
 abbrev pub Shares : StabilizerState → StabilizerState → Intersection → Answer → Intersection → Type 0
-Shares t s last (Common both n) last' =
-    (sizes_number t s ≡ 0) × Intersects both t s × Roomy both t s × (n ≡ t.qubits) × (last' ≡ both)
+Shares t s last (Common c) last' =
+    (sizes_number t s ≡ 0) × Intersects c.both t s × Roomy c.both t s × (c.qubits ≡ t.qubits) × (last' ≡ c.both)
 Shares t s last (Refused e) last' = (number_of e ≡ sizes_number t s) × (last' ≡ last)
 Shares t s last a last' = ⊥
 
@@ -99,11 +100,24 @@ ShowsTotal ring times i a =
     (v : RingValue) × (a ≡ Total (last_number times i) (added_count times i) v)
     × IsValue ring v (λ R o. sum_to o (term_in o i) (added_count times i))
 
+-- the same in one ring, whose values R stand for elements of C and are shown as the values of a ring
+abbrev pub ShowsTotalIn : {R C : Type 0} → (R → RingValue → Type 0) → (R → C) → Ops C → ℕ → Intersection → Answer → Type 0
+ShowsTotalIn {R} shows value ops times i a =
+    (r : R) × (v : RingValue) × (a ≡ Total (last_number times i) (added_count times i) v) × shows r v
+    × (value r ≡ sum_to ops (term_in ops i) (added_count times i))
+
 -- a scalar in a ring, where its power is not negative
 abbrev pub Embeds : RingName → Number → Answer → Type 0
 Embeds ring x (Value v) = (Negative (triple_of x) → ⊥) × IsValue ring v (λ R o. embedded o (triple_of x))
 Embeds ring x (Refused e) = Negative (triple_of x) × (number_of e ≡ 25)
 Embeds ring x a = ⊥
+
+-- the same in one ring
+abbrev pub EmbedsIn : {R C : Type 0} → (R → RingValue → Type 0) → (R → C) → Ops C → Number → Answer → Type 0
+EmbedsIn {R} shows value ops x (Value v) =
+    (Negative (triple_of x) → ⊥) × (r : R) × shows r v × (value r ≡ embedded ops (triple_of x))
+EmbedsIn shows value ops x (Refused e) = Negative (triple_of x) × (number_of e ≡ 25)
+EmbedsIn shows value ops x a = ⊥
 
 -- the count of an archive, or its fault
 abbrev pub Checks : List ℕ → Answer → Type 0

@@ -3,12 +3,11 @@ use Rattle.std.specs.Prelude.{ℕ, ℤ, ◌/◌, ◌%◌, List, ◌++◌, codes,
 use Rattle.std.specs.Fmt.{signed_decimal}
 use Rattle.archive.specs.Faults.{fault_text}
 use Rattle.cyclotomic.specs.Columns.{hex_at, word_at}
-use Rattle.cyclotomic.specs.Refusals.{number_of}
 use Rattle.cyclotomic.specs.Scalars.{triple_of}
-use Rattle.cyclotomic.specs.declared.refusal.Refusal.{Refusal}
+use Rattle.cyclotomic.specs.Texts.{refusal_text, triple_text}
 use Rattle.listing.specs.Digits.{glyphs, hex_text}
 use Rattle.listing.specs.Fields.{dimension_of, fields_text, space_text}
-use Rattle.listing.specs.Texts.{mark_text, triple_text}
+use Rattle.listing.specs.Texts.{mark_text}
 use Rattle.quadratic.specs.declared.intersection.Intersection.{Intersection}
 use Rattle.quadratic.specs.declared.intersection.Intersection.TheVariants.{Empty, Space}
 use Rattle.console.specs.declared.answer.Answer.{Answer}
@@ -32,9 +31,6 @@ problem_text NoPairs = codes "pairs of hexadecimal digits are wanted, or - for n
 problem_text NoScalar = codes "a scalar is 0 0 0, or 1 P M with M from 0 to 7"
 problem_text NoCall = codes "a call is g:KIND:J:L or p:TEXT, with ; between calls, or - for none"
 problem_text NoMemory = codes "there is no memory for these bytes"
-
-abbrev pub refusal_text : Refusal → List ℕ
-refusal_text e = codes "refused " ++ decimal (number_of e)
 
 -- two digits of a residue; four words of sixteen
 abbrev pub value_text : RingValue → List ℕ
@@ -79,7 +75,7 @@ reply_text (Length n) b = counted_text n b
 reply_text (Number n) b = counted_text n b
 reply_text (Fields s) b = fields_text s
 reply_text (Scalar x) b = triple_text (triple_of x)
-reply_text (Common both n) b = common_text both n
+reply_text (Common c) b = common_text c.both c.qubits
 reply_text (Mark equal) b = mark_text equal
 reply_text Aside b = codes "aside"
 reply_text (Coordinates q) b = coordinates_text q

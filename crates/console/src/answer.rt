@@ -1,13 +1,13 @@
-ghost use Rattle.std.specs.Prelude.{Some};
-ghost use Rattle.std.specs.Fmt.{WritesOnOk};
-ghost use Rattle.cyclotomic.specs.Scalars.{triple_of};
-ghost use Rattle.listing.specs.Digits.{hex_text};
-ghost use Rattle.listing.specs.Fields.{fields_text};
-ghost use Rattle.listing.specs.Texts.{triple_text};
-ghost use Rattle.console.specs.Replies.{common_text, refusal_text, reply_text, value_text};
+ghost use Rattle.std.specs.Prelude.{◌≡◌, Some};
+ghost use Rattle.archive.specs.Faults.{archive_report, state_report};
+ghost use Rattle.console.specs.Answers.{denial_answer, fault_answer};
+ghost use Rattle.console.specs.Replies.{common_text, reply_text, value_text};
+ghost use Rattle.console.specs.declared.answer.Answer.TheVariants.{Refused};
+ghost use Rattle.console.specs.declared.answer.RingValue.TheVariants.{Mod17 as Residue, Quad as Words};
 
 use crate::problem::Problem;
-use archive::fault::Report;
+use archive::container::Denial;
+use archive::fault::{ArchiveFault, Report, StateFault};
 use cyclotomic::mod17::Mod17;
 use cyclotomic::quads::Cyclotomic64;
 use cyclotomic::refusal::Refusal;
@@ -15,7 +15,7 @@ use cyclotomic::scalar::Scalar;
 use listing::fields::FieldsText;
 use listing::hex::HexBytes;
 use listing::space::SpaceText;
-use listing::text::{ColumnText, ScalarText};
+use listing::text::ColumnText;
 use quadratic::intersection::Intersection;
 use stabilizer::state::StabilizerState;
 use std::fmt;
@@ -25,6 +25,57 @@ use std::fmt;
 pub enum RingValue {
     Mod17(Mod17),
     Quad(Cyclotomic64),
+}
+
+impl From<Mod17> for RingValue {
+    ghost from_gives = { λ x v. v ≡ Residue x };
+
+    fn from(x: Mod17) -> RingValue {
+        RingValue::Mod17(x)
+    }
+}
+
+impl From<Cyclotomic64> for RingValue {
+    ghost from_gives = { λ x v. v ≡ Words x };
+
+    fn from(x: Cyclotomic64) -> RingValue {
+        RingValue::Quad(x)
+    }
+}
+
+impl fmt::Display for RingValue {
+    ghost output = { λ x. Some (value_text x) };
+
+    fn fmt<W: fmt::Write>(&self, f: &mut fmt::Formatter<W>) -> fmt::Result {
+        match self {
+            RingValue::Mod17(x) => write!(f, "{}", ColumnText(*x)),
+            RingValue::Quad(x) => write!(f, "{}", ColumnText(*x)),
+        }
+    }
+}
+
+// An intersection of states of so many qubits.
+#[derive(Clone, Copy)]
+pub struct Common {
+    pub both: Intersection,
+    pub qubits: u64,
+}
+
+impl fmt::Display for Common {
+    ghost output = { λ x. Some (common_text x.both x.qubits) };
+
+    fn fmt<W: fmt::Write>(&self, f: &mut fmt::Formatter<W>) -> fmt::Result {
+        match &self.both {
+            Intersection::Empty => f.write_str("empty"),
+            Intersection::Space(space) => {
+                let text = SpaceText {
+                    space,
+                    qubits: self.qubits,
+                };
+                write!(f, "{} {text}", space.dimension())
+            }
+        }
+    }
 }
 
 // What a line is answered. Bytes of an answer are in the buffer of the operands.
@@ -40,10 +91,7 @@ pub enum Answer {
     Number(u8),
     Fields(StabilizerState),
     Scalar(Scalar),
-    Common {
-        both: Intersection,
-        qubits: u64,
-    },
+    Common(Common),
     Mark(bool),
     Aside,
     Coordinates((i64, i64, i64, i64)),
@@ -54,6 +102,41 @@ pub enum Answer {
     },
     Value(RingValue),
     Count(u64),
+}
+
+impl From<Refusal> for Answer {
+    ghost from_gives = { λ e a. a ≡ Refused e };
+
+    fn from(refusal: Refusal) -> Answer {
+        Answer::Refused(refusal)
+    }
+}
+
+impl From<StateFault> for Answer {
+    ghost from_gives = { λ f a. a ≡ fault_answer (state_report f) };
+
+    fn from(fault: StateFault) -> Answer {
+        Answer::Fault(Report::from(fault))
+    }
+}
+
+impl From<ArchiveFault> for Answer {
+    ghost from_gives = { λ f a. a ≡ fault_answer (archive_report f) };
+
+    fn from(fault: ArchiveFault) -> Answer {
+        Answer::Fault(Report::from(fault))
+    }
+}
+
+impl From<Denial<ArchiveFault>> for Answer {
+    ghost from_gives = { λ d a. a ≡ denial_answer d };
+
+    fn from(denial: Denial<ArchiveFault>) -> Answer {
+        match denial {
+            Denial::Fault(fault) => Answer::from(fault),
+            Denial::Refused(refusal) => Answer::from(refusal),
+        }
+    }
 }
 
 // An answer with the bytes that it shows.
@@ -77,21 +160,15 @@ impl fmt::Display for Reply<'_> {
         match self.answer {
             Answer::Help => f.write_str(HELP),
             Answer::Done => f.write_str("ok"),
-            Answer::Refused(refusal) => write_refusal(f, refusal),
+            Answer::Refused(refusal) => write!(f, "{refusal}"),
             Answer::Fault(report) => write!(f, "{report}"),
             Answer::Unreadable(problem) => write!(f, "? {problem}"),
-            Answer::Bytes => write_bytes(f, self.buffer),
-            Answer::Length(length) => {
-                write!(f, "{length} ")?;
-                write_bytes(f, self.buffer)
-            }
-            Answer::Number(number) => {
-                write!(f, "{number} ")?;
-                write_bytes(f, self.buffer)
-            }
-            Answer::Fields(state) => write_fields(f, &state),
-            Answer::Scalar(scalar) => write_scalar(f, scalar),
-            Answer::Common { both, qubits } => write_common(f, &both, qubits),
+            Answer::Bytes => write!(f, "{}", HexBytes(self.buffer)),
+            Answer::Length(length) => write!(f, "{length} {}", HexBytes(self.buffer)),
+            Answer::Number(number) => write!(f, "{number} {}", HexBytes(self.buffer)),
+            Answer::Fields(state) => write!(f, "{}", FieldsText(&state)),
+            Answer::Scalar(scalar) => write!(f, "{scalar}"),
+            Answer::Common(common) => write!(f, "{common}"),
             Answer::Mark(equal) => f.write_str(if equal { "=" } else { "." }),
             Answer::Aside => f.write_str("aside"),
             Answer::Coordinates((a0, a1, a2, a3)) => write!(f, "{a0} {a1} {a2} {a3}"),
@@ -99,74 +176,9 @@ impl fmt::Display for Reply<'_> {
                 number,
                 count,
                 value,
-            } => {
-                write!(f, "{number} {count} ")?;
-                write_value(f, value)
-            }
-            Answer::Value(value) => write_value(f, value),
+            } => write!(f, "{number} {count} {value}"),
+            Answer::Value(value) => write!(f, "{value}"),
             Answer::Count(count) => write!(f, "{count}"),
-        }
-    }
-}
-
-fn write_refusal<W: fmt::Write>(f: &mut fmt::Formatter<W>, refusal: Refusal) -> fmt::Result
-    ensures { WritesOnOk W.Write.write_str_gives f.old result (refusal_text refusal) f.new }
-{
-    let number = refusal.number();
-    write!(f, "refused {number}")
-}
-
-fn write_bytes<W: fmt::Write>(f: &mut fmt::Formatter<W>, bytes: &[u8]) -> fmt::Result
-    ensures { WritesOnOk W.Write.write_str_gives f.old result (hex_text bytes.now) f.new }
-{
-    let pairs = HexBytes(bytes);
-    write!(f, "{pairs}")
-}
-
-fn write_scalar<W: fmt::Write>(f: &mut fmt::Formatter<W>, scalar: Scalar) -> fmt::Result
-    ensures { WritesOnOk W.Write.write_str_gives f.old result (triple_text (triple_of scalar)) f.new }
-{
-    let text = ScalarText(scalar);
-    write!(f, "{text}")
-}
-
-fn write_value<W: fmt::Write>(f: &mut fmt::Formatter<W>, value: RingValue) -> fmt::Result
-    ensures { WritesOnOk W.Write.write_str_gives f.old result (value_text value) f.new }
-{
-    match value {
-        RingValue::Mod17(x) => {
-            let text = ColumnText(x);
-            write!(f, "{text}")
-        }
-        RingValue::Quad(x) => {
-            let text = ColumnText(x);
-            write!(f, "{text}")
-        }
-    }
-}
-
-// Writes the fields of a state.
-fn write_fields<W: fmt::Write>(f: &mut fmt::Formatter<W>, state: &StabilizerState) -> fmt::Result
-    ensures { WritesOnOk W.Write.write_str_gives f.old result (fields_text state.now) f.new }
-{
-    let text = FieldsText(state);
-    write!(f, "{text}")
-}
-
-// Writes an intersection of states with that many qubits: its dimension and its space.
-fn write_common<W: fmt::Write>(
-    f: &mut fmt::Formatter<W>,
-    both: &Intersection,
-    qubits: u64,
-) -> fmt::Result
-    ensures { WritesOnOk W.Write.write_str_gives f.old result (common_text both.now qubits) f.new }
-{
-    match both {
-        Intersection::Empty => f.write_str("empty"),
-        Intersection::Space(space) => {
-            let dimension = space.dimension();
-            let text = SpaceText { space, qubits };
-            write!(f, "{dimension} {text}")
         }
     }
 }

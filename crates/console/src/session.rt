@@ -1,21 +1,22 @@
-ghost use Rattle.std.specs.Prelude.{◌≡◌, IfOk, OnErr};
+ghost use Rattle.std.specs.Prelude.{◌≡◌, IfOk, OnErr, map};
 ghost use Rattle.std.specs.Borrow.{sem};
+ghost use Rattle.circuit.specs.Made.{call_of};
 ghost use Rattle.console.specs.Lending.{LendsState};
-ghost use Rattle.cyclotomic.specs.Refusals.{answer_of};
 ghost use Rattle.console.specs.Sessions.{state_of, Fresh, Looks, Leaves, Ran};
-ghost use Rattle.console.specs.Answers.{Denies, call_answer, denial_answer, scalar_answer, split_answer};
-ghost use Rattle.console.specs.Commands.{Opens, Gates, Projects, Reads, Takes, Writes, WritesInto, ShowsTotal, Embeds, Checks, Views};
+ghost use Rattle.console.specs.Answers.{Denies};
+ghost use Rattle.console.specs.Commands.{Opens, Gates, Projects, Reads, Takes, Writes, WritesInto, ShowsAmplitude, ShowsOverlap, ShowsSplit};
+ghost use Rattle.console.specs.Commands.{ShowsTotal, ShowsTotalIn, Embeds, EmbedsIn, Checks, Views};
 
-use crate::answer::{Answer, RingValue};
+use crate::answer::{Answer, Common, RingValue};
 use crate::command::{Command, Name, Operands, RingName};
-use archive::container::Denial;
-use archive::fault::{ArchiveFault, Report};
 use archive::{codec, container};
+use circuit::call::Call;
 use circuit::division::split;
 use cyclotomic::embedding::embed;
 use cyclotomic::mod17::Mod17;
 use cyclotomic::quads::Cyclotomic64;
 use cyclotomic::refusal::Refusal;
+use cyclotomic::ring::Ring;
 use cyclotomic::scalar::Scalar;
 use quadratic::coordinates::exact_coordinates;
 use quadratic::intersection::Intersection;
@@ -67,9 +68,7 @@ impl Session {
             Command::Write { name } => write(self.named(name), &mut operands.buffer),
             Command::WriteInto { name } => Ok(write_into(self.named(name), &mut operands.buffer)),
             Command::Fields { name } => Ok(Answer::Fields(*self.named(name))),
-            Command::Amplitude { name, string } => Ok(of_scalar(
-                self.named(name).amplitude(string),
-            )),
+            Command::Amplitude { name, string } => Ok(amplitude(self.named(name), string)),
             Command::Gate {
                 name,
                 kind,
@@ -77,13 +76,8 @@ impl Session {
                 second,
             } => Ok(gate(self.named_mut(name), kind, first, second)),
             Command::Project { name } => Ok(project(self.named_mut(name), &operands.first)),
-            Command::Split { place } => Ok(of_split(split(
-                &self.s,
-                &self.t,
-                &operands.calls,
-                place,
-            ))),
-            Command::Overlap => Ok(of_scalar(overlap(&self.t, &self.s))),
+            Command::Split { place } => Ok(self.split(&operands.calls, place)),
+            Command::Overlap => Ok(self.overlap()),
             Command::Same => Ok(Answer::Mark(self.t.same(&self.s))),
             Command::Intersect => Ok(self.intersect()),
             Command::Sum => Ok(Answer::Scalar(exponential_sum(&self.last))),
@@ -121,6 +115,22 @@ impl Session {
         }
     }
 
+    fn split(&self, calls: &[Call], place: u64) -> Answer
+        ensures { ShowsSplit (map call_of calls.now) place self.now.s self.now.t result }
+    {
+        match split(&self.s, &self.t, calls, place) {
+            Ok(Some(scalar)) => Answer::Scalar(scalar),
+            Ok(None) => Answer::Aside,
+            Err(refusal) => Answer::from(refusal),
+        }
+    }
+
+    fn overlap(&self) -> Answer
+        ensures { ShowsOverlap self.now.t self.now.s result }
+    {
+        overlap(&self.t, &self.s).map_or_else(Answer::from, Answer::Scalar)
+    }
+
     fn intersect(&mut self) -> Answer
         ensures kept { Denies result → self.new ≡ self.old }
         ensures shared { Leaves self.old result self.new }
@@ -128,11 +138,11 @@ impl Session {
         let t = self.t;
         let s = self.s;
         match intersect(&mut self.last, &t, &s) {
-            Ok(()) => Answer::Common {
+            Ok(()) => Answer::Common(Common {
                 both: self.last,
                 qubits: t.qubits(),
-            },
-            Err(refusal) => Answer::Refused(refusal),
+            }),
+            Err(refusal) => Answer::from(refusal),
         }
     }
 }
@@ -141,41 +151,41 @@ fn open(state: &mut StabilizerState, qubits: u64) -> Answer
     ensures kept { Denies result → state.new ≡ state.old }
     ensures opened { Opens qubits state.old result state.new }
 {
-    of_call(state.open(qubits))
+    state.open(qubits).map_or_else(Answer::from, |()| Answer::Done)
 }
 
 fn gate(state: &mut StabilizerState, kind: u64, first: u64, second: u64) -> Answer
     ensures kept { Denies result → state.new ≡ state.old }
     ensures applied { Gates kind first second state.old result state.new }
 {
-    of_call(state.gate(kind, first, second))
+    state.gate(kind, first, second).map_or_else(Answer::from, |()| Answer::Done)
 }
 
 fn project(state: &mut StabilizerState, text: &[u8]) -> Answer
     ensures kept { Denies result → state.new ≡ state.old }
     ensures projected { Projects text.now state.old result state.new }
 {
-    of_call(state.project(text))
+    state.project(text).map_or_else(Answer::from, |()| Answer::Done)
 }
 
 fn read(state: &mut StabilizerState, bytes: &[u8]) -> Answer
     ensures kept { Denies result → state.new ≡ state.old }
     ensures read { Reads bytes.now state.old result state.new }
 {
-    match codec::read(state, bytes) {
-        Ok(()) => Answer::Done,
-        Err(fault) => Answer::Fault(Report::from(fault)),
-    }
+    codec::read(state, bytes).map_or_else(Answer::from, |()| Answer::Done)
 }
 
 fn take(state: &mut StabilizerState, archive: &[u8], index: u64) -> Answer
     ensures kept { Denies result → state.new ≡ state.old }
     ensures taken { Takes archive.now index state.old result state.new }
 {
-    match container::take(state, archive, index) {
-        Ok(()) => Answer::Done,
-        Err(denial) => of_denial(denial),
-    }
+    container::take(state, archive, index).map_or_else(Answer::from, |()| Answer::Done)
+}
+
+fn amplitude(state: &StabilizerState, string: u64) -> Answer
+    ensures { ShowsAmplitude string state.now result }
+{
+    state.amplitude(string).map_or_else(Answer::from, Answer::Scalar)
 }
 
 // Puts the bytes of a state into the buffer, and nothing else.
@@ -189,26 +199,20 @@ fn write(state: &StabilizerState, buffer: &mut Vec<u8>) -> Result<Answer, AllocE
             buffer.truncate(length);
             Ok(Answer::Bytes)
         }
-        Err(refusal) => Ok(Answer::Refused(refusal)),
+        Err(refusal) => Ok(Answer::from(refusal)),
     }
 }
 
 fn write_into(state: &StabilizerState, buffer: &mut [u8]) -> Answer
     ensures { WritesInto state.now result buffer.old buffer.new }
 {
-    match codec::write(state, buffer) {
-        Ok(length) => Answer::Length(length),
-        Err(refusal) => Answer::Refused(refusal),
-    }
+    codec::write(state, buffer).map_or_else(Answer::from, Answer::Length)
 }
 
 fn check(archive: &[u8]) -> Answer
     ensures { Checks archive.now result }
 {
-    match container::check(archive) {
-        Ok(count) => Answer::Count(count),
-        Err(fault) => Answer::Fault(Report::from(fault)),
-    }
+    container::check(archive).map_or_else(Answer::from, Answer::Count)
 }
 
 // Puts the part of an archive into the buffer.
@@ -221,44 +225,7 @@ fn view(archive: &[u8], index: u64, buffer: &mut Vec<u8>) -> Result<Answer, Allo
             buffer.extend_from_slice(part)?;
             Ok(Answer::Bytes)
         }
-        Err(denial) => Ok(of_denial(denial)),
-    }
-}
-
-fn of_call(res: Result<(), Refusal>) -> Answer
-    ensures { result ≡ call_answer res }
-{
-    match res {
-        Ok(()) => Answer::Done,
-        Err(refusal) => Answer::Refused(refusal),
-    }
-}
-
-fn of_scalar(res: Result<Scalar, Refusal>) -> Answer
-    ensures { result ≡ scalar_answer res }
-{
-    match res {
-        Ok(scalar) => Answer::Scalar(scalar),
-        Err(refusal) => Answer::Refused(refusal),
-    }
-}
-
-fn of_split(res: Result<Option<Scalar>, Refusal>) -> Answer
-    ensures { result ≡ split_answer res }
-{
-    match res {
-        Ok(Some(scalar)) => Answer::Scalar(scalar),
-        Ok(None) => Answer::Aside,
-        Err(refusal) => Answer::Refused(refusal),
-    }
-}
-
-fn of_denial(denial: Denial<ArchiveFault>) -> Answer
-    ensures { result ≡ denial_answer denial }
-{
-    match denial {
-        Denial::Fault(fault) => Answer::Fault(Report::from(fault)),
-        Denial::Refused(refusal) => Answer::Refused(refusal),
+        Err(denial) => Ok(Answer::from(denial)),
     }
 }
 
@@ -267,22 +234,19 @@ fn total(x: &Intersection, ring: RingName, times: u64) -> Answer
     ensures { ShowsTotal ring times x.now result }
 {
     match ring {
-        RingName::Mod17 => {
-            let (sum, last) = added::<Mod17>(x, times);
-            Answer::Total {
-                number: number_of(last),
-                count: sum.count(),
-                value: RingValue::Mod17(sum.value()),
-            }
-        }
-        RingName::Quad => {
-            let (sum, last) = added::<Cyclotomic64>(x, times);
-            Answer::Total {
-                number: number_of(last),
-                count: sum.count(),
-                value: RingValue::Quad(sum.value()),
-            }
-        }
+        RingName::Mod17 => total_in::<Mod17>(x, times),
+        RingName::Quad => total_in::<Cyclotomic64>(x, times),
+    }
+}
+
+fn total_in<R: Ring + Into<RingValue>>(x: &Intersection, times: u64) -> Answer
+    ensures { ShowsTotalIn R.converts R.value R.ops times x.now result }
+{
+    let (sum, last) = added::<R>(x, times);
+    Answer::Total {
+        number: last.map_or_else(Refusal::number, |()| 0),
+        count: sum.count(),
+        value: sum.value().into(),
     }
 }
 
@@ -291,23 +255,16 @@ fn embedded(ring: RingName, scalar: Scalar) -> Answer
     ensures { Embeds ring scalar result }
 {
     match ring {
-        RingName::Mod17 => match embed::<Mod17>(scalar) {
-            Ok(value) => Answer::Value(RingValue::Mod17(value)),
-            Err(refusal) => Answer::Refused(refusal),
-        },
-        RingName::Quad => match embed::<Cyclotomic64>(scalar) {
-            Ok(value) => Answer::Value(RingValue::Quad(value)),
-            Err(refusal) => Answer::Refused(refusal),
-        },
+        RingName::Mod17 => embedded_in::<Mod17>(scalar),
+        RingName::Quad => embedded_in::<Cyclotomic64>(scalar),
     }
 }
 
-// The number of an answer, 0 where it was granted.
-fn number_of(answer: Result<(), Refusal>) -> u64
-    ensures { result ≡ answer_of answer }
+fn embedded_in<R: Ring + Into<RingValue>>(scalar: Scalar) -> Answer
+    ensures { EmbedsIn R.converts R.value R.ops scalar result }
 {
-    match answer {
-        Ok(()) => 0,
-        Err(refusal) => refusal.number(),
+    match embed::<R>(scalar) {
+        Ok(value) => Answer::Value(value.into()),
+        Err(refusal) => Answer::from(refusal),
     }
 }

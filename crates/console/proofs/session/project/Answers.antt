@@ -1,10 +1,9 @@
-use Rattle.std.proofs.Common.{subst}
-use Rattle.console.specs.Answers.{Denies}
+use Rattle.std.proofs.Common.{rules, ◌≡◌, subst}
+use Rattle.console.specs.Answers.{Denies, call_answer}
 use Rattle.console.proofs.Kept.{call-denied, projection-kept}
 use Rattle.console.proofs.session.project.Goals as goal
 
-pub returns : goal.returns
-returns c = record {
-  kept = λ d. projection-kept _ _ _ _ _ (call-denied _ (subst Denies c.of_call.ensures d)) c.project.ensures;
-  projected = (c.project.result, c.of_call.ensures, c.project.ensures);
-}
+pub returns-clause-kept : goal.returns-clause-kept
+returns-clause-kept c = λ d.
+    let e : c.map_or_else.result ≡ call_answer c.project.result = search rules in
+    projection-kept _ _ _ _ _ (call-denied _ (subst Denies e d)) c.project.ensures
