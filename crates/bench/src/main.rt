@@ -2,8 +2,6 @@
 // were taken or strings added, and a number made of every result.
 #![tactic(auto)]
 
-ghost use Rattle.std.specs.Prelude.{◌<◌, length};
-
 use archive::load::load;
 use cyclotomic::mod17::Mod17;
 use cyclotomic::quads::Cyclotomic64;
@@ -15,26 +13,11 @@ use stabilizer::state::StabilizerState;
 use std::io::Read;
 use std::{env, io};
 
-// What is done with each pair of states.
-#[derive(Clone, Copy)]
-enum Mode {
-    Read,
-    Overlap,
-    Sum,
-}
-
-impl Mode {
-    fn of(word: &str) -> Mode {
-        match word {
-            "overlap" => Mode::Overlap,
-            "sum" => Mode::Sum,
-            _ => Mode::Read,
-        }
-    }
-}
+// The most dimensions of an intersection that is added up.
+const MOST_DIMENSIONS: u64 = 12;
 
 // How much was done, and a number made of the results.
-#[derive(Clone, Copy)]
+#[derive(Clone, Copy, Default)]
 struct Tally {
     count: u64,
     mixed: u64,
@@ -55,16 +38,16 @@ impl Tally {
         }
     }
 
-    // Adds up the intersection of two states in both rings, unless it has more than 12 dimensions.
+    // Adds up the intersection of two states in both rings, unless it has too many dimensions.
     fn sum(&mut self, t: &StabilizerState, s: &StabilizerState) {
         let mut both = Intersection::Empty;
         if intersect(&mut both, t, s).is_err() {
             return;
         }
-        let Some(dimension) = both.dimension() else {
-            return;
-        };
-        if dimension > 12 {
+        if both
+            .dimension()
+            .is_none_or(|dimension| dimension > MOST_DIMENSIONS)
+        {
             return;
         }
         let residues = total::<Mod17>(&both);
@@ -75,46 +58,65 @@ impl Tally {
         self.note(quads.value().word(0));
     }
 
-    // Does what the mode says with the state at i and each after it.
-    fn pairs_of(&mut self, mode: Mode, states: &[StabilizerState], i: usize)
-        requires { i < length states.now }
+    // Does the work with a state and each of those after it.
+    fn pairs_of<F: Fn(&mut Tally, &StabilizerState, &StabilizerState)>(
+        &mut self,
+        work: &F,
+        t: &StabilizerState,
+        others: &[StabilizerState],
+    )
+        requires { F.IsAlwaysCallable work.now }
     {
-        for j in i + 1..states.len() {
-            match mode {
-                Mode::Read => {}
-                Mode::Overlap => self.overlap(&states[i], &states[j]),
-                Mode::Sum => self.sum(&states[i], &states[j]),
-            }
+        for s in others {
+            work(self, t, s);
         }
     }
 
-    // Does what the mode says with each pair of states.
-    fn round(&mut self, mode: Mode, states: &[StabilizerState]) {
-        for i in 0..states.len() {
-            self.pairs_of(mode, states, i);
+    // Does the work with each pair of states.
+    fn round<F: Fn(&mut Tally, &StabilizerState, &StabilizerState)>(
+        &mut self,
+        work: &F,
+        states: &[StabilizerState],
+    )
+        requires { F.IsAlwaysCallable work.now }
+    {
+        for (i, t) in states.iter().enumerate() {
+            self.pairs_of(work, t, &states[i + 1..]);
         }
     }
 }
 
+// Does so many rounds of the work.
+fn rounds<F: Fn(&mut Tally, &StabilizerState, &StabilizerState)>(
+    work: F,
+    count: u64,
+    states: &[StabilizerState],
+) -> Tally
+    requires { F.IsAlwaysCallable work }
+{
+    let mut tally = Tally::default();
+    for _ in 0..count {
+        tally.round(&work, states);
+    }
+    tally
+}
+
 fn main(rt: HostRuntime) -> io::Result<()> {
     let mut words = env::args(&rt)?.skip(1);
-    let mode = match words.next() {
-        Some(word) => Mode::of(word.as_str()),
-        None => Mode::Read,
-    };
-    let rounds = match words.next() {
-        Some(word) => word.as_str().parse::<u64>().unwrap_or(1),
+    let mode = words.next();
+    let count = match words.next() {
+        Some(word) => word.as_str().parse().unwrap_or(1),
         None => 1,
     };
     let mut archive = Vec::new(rt.alloc());
     rt.stdin().read_to_end(&mut archive)?;
-    let mut tally = Tally { count: 0, mixed: 0 };
-    if let Ok(states) = load(rt.alloc(), &archive) {
-        for _ in 0..rounds {
-            tally.round(mode, &states);
-        }
-    }
-    let count = tally.count;
-    let mixed = tally.mixed;
-    println!(rt; "{count} {mixed:016x}")
+    let tally = match load(rt.alloc(), &archive) {
+        Ok(states) => match mode.as_ref().map(|word| word.as_str()) {
+            Some("overlap") => rounds(Tally::overlap, count, &states),
+            Some("sum") => rounds(Tally::sum, count, &states),
+            _ => Tally::default(),
+        },
+        Err(_) => Tally::default(),
+    };
+    println!(rt; "{} {:016x}", tally.count, tally.mixed)
 }

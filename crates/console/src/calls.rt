@@ -1,7 +1,5 @@
-ghost use Rattle.std.specs.Prelude.{◌<◌, length, IfSome};
-
 use crate::problem::Problem;
-use crate::words::{number_of, until};
+use crate::words::number_of;
 use circuit::call::Call;
 use listing::hex::Hex;
 
@@ -11,12 +9,10 @@ pub(crate) fn read_calls(word: &[u8], out: &mut Vec<Call>) -> Result<(), Problem
     if let [b'-'] = word {
         return Ok(());
     }
-    let mut rest = word;
-    while let Some((call, after)) = cut(rest, b';') {
+    for call in word.split(|byte| *byte == b';') {
         push_call(call, out)?;
-        rest = after;
     }
-    push_call(rest, out)
+    Ok(())
 }
 
 // One call more: `g:KIND:J:L` for a gate, and `p:TEXT` for a projection.
@@ -30,48 +26,34 @@ fn push_call(word: &[u8], out: &mut Vec<Call>) -> Result<(), Problem> {
         }
         _ => return Err(Problem::NoCall),
     };
-    match out.push(call) {
-        Ok(()) => Ok(()),
-        Err(_) => Err(Problem::NoMemory),
-    }
+    out.push(call)?;
+    Ok(())
 }
 
 // The gate with a kind, a first and a second qubit, with colons between them.
 fn gate_of(numbers: &[u8]) -> Result<Call, Problem> {
-    let (kind, qubits) = cut(numbers, b':').ok_or(Problem::NoCall)?;
-    let (first, second) = cut(qubits, b':').ok_or(Problem::NoCall)?;
+    let (kind, qubits) = cut(numbers).ok_or(Problem::NoCall)?;
+    let (first, second) = cut(qubits).ok_or(Problem::NoCall)?;
     Ok(Call::Gate {
-        kind: number_of(kind).ok_or(Problem::NoNumber)?,
-        first: number_of(first).ok_or(Problem::NoNumber)?,
-        second: number_of(second).ok_or(Problem::NoNumber)?,
+        kind: number_of(kind)?,
+        first: number_of(first)?,
+        second: number_of(second)?,
     })
 }
 
 // Puts the bytes of a Pauli text into `out`, in place of what it held: after `x:` as pairs of hexadecimal digits, else as they stand.
 pub(crate) fn read_text(word: &[u8], out: &mut Vec<u8>) -> Result<(), Problem> {
-    let copied = match word {
-        [b'x', b':', digits @ ..] => match Hex::new(digits) {
-            Some(digits) => digits.decode(out),
-            None => return Err(Problem::NoPairs),
-        },
-        _ => {
-            out.clear();
-            out.extend_from_slice(word)
-        }
-    };
-    match copied {
-        Ok(()) => Ok(()),
-        Err(_) => Err(Problem::NoMemory),
+    if let [b'x', b':', digits @ ..] = word {
+        Hex::new(digits).ok_or(Problem::NoPairs)?.decode(out)?;
+        return Ok(());
     }
+    out.clear();
+    out.extend_from_slice(word)?;
+    Ok(())
 }
 
-// What stands before the first such byte, and what stands after it.
-fn cut(text: &[u8], byte: u8) -> Option<(&[u8], &[u8])>
-    ensures { IfSome result (λ p. length p.1.now < length text.now) }
-{
-    let (before, rest) = text.split_at(until(text, byte));
-    match rest {
-        [_, after @ ..] => Some((before, after)),
-        [] => None,
-    }
+// What stands before the first colon, and what stands after it.
+fn cut(text: &[u8]) -> Option<(&[u8], &[u8])> {
+    let at = text.iter().position(|byte| *byte == b':')?;
+    Some((&text[..at], &text[at + 1..]))
 }

@@ -1,6 +1,6 @@
 ghost use Rattle.std.specs.Prelude.{◌≡◌, IfOk};
-ghost use Rattle.console.specs.Words.{verb_text, verb_of, Names, OnBytes, OnState};
-ghost use Rattle.console.specs.declared.command.Verb.TheVariants.{Split as ToSplit, Total as ToTotal, Embed as ToEmbed};
+ghost use Rattle.console.specs.Words.{verb_text, verb_of, Names};
+ghost use Rattle.console.specs.declared.command.Verb.TheVariants.{OnBytes, OnState, Split as ToSplit, Total as ToTotal, Embed as ToEmbed};
 
 use crate::calls;
 use crate::problem::Problem;
@@ -16,8 +16,10 @@ pub enum Name {
     T,
 }
 
-impl Name {
-    fn of(word: &[u8]) -> Result<Name, Problem> {
+impl TryFrom<&[u8]> for Name {
+    type Error = Problem;
+
+    fn try_from(word: &[u8]) -> Result<Name, Problem> {
         match word {
             b"s" => Ok(Name::S),
             b"t" => Ok(Name::T),
@@ -33,8 +35,10 @@ pub enum RingName {
     Quad,
 }
 
-impl RingName {
-    fn of(word: &[u8]) -> Result<RingName, Problem> {
+impl TryFrom<&[u8]> for RingName {
+    type Error = Problem;
+
+    fn try_from(word: &[u8]) -> Result<RingName, Problem> {
         match word {
             b"mod17" => Ok(RingName::Mod17),
             b"quad" => Ok(RingName::Quad),
@@ -127,14 +131,7 @@ impl Operands {
 #[derive(Clone, Copy)]
 enum Verb {
     Help,
-    Open,
-    Read,
-    Take,
-    Write,
-    Fields,
-    Amplitude,
-    Gate,
-    Project,
+    OnState(StateVerb),
     Split,
     Overlap,
     Same,
@@ -143,25 +140,46 @@ enum Verb {
     Coordinates,
     Total,
     Embed,
+    OnBytes(BytesVerb),
+}
+
+// That of a command on the state with a name.
+#[derive(Clone, Copy)]
+enum StateVerb {
+    Open,
+    Read,
+    Take,
+    Write,
+    Fields,
+    Amplitude,
+    Gate,
+    Project,
+}
+
+// That of a command on bytes alone.
+#[derive(Clone, Copy)]
+enum BytesVerb {
     Check,
     View,
     Host,
 }
 
-impl Verb {
-    fn of(word: &[u8]) -> Result<Verb, Problem>
-        ensures { IfOk result (λ v. word.now ≡ verb_text v) }
-    {
+impl TryFrom<&[u8]> for Verb {
+    type Error = Problem;
+
+    ghost try_from_gives = { λ word r. IfOk r (λ v. word.now ≡ verb_text v) };
+
+    fn try_from(word: &[u8]) -> Result<Verb, Problem> {
         match word {
             b"help" => Ok(Verb::Help),
-            b"open" => Ok(Verb::Open),
-            b"read" => Ok(Verb::Read),
-            b"take" => Ok(Verb::Take),
-            b"write" => Ok(Verb::Write),
-            b"fields" => Ok(Verb::Fields),
-            b"amplitude" => Ok(Verb::Amplitude),
-            b"gate" => Ok(Verb::Gate),
-            b"project" => Ok(Verb::Project),
+            b"open" => Ok(Verb::OnState(StateVerb::Open)),
+            b"read" => Ok(Verb::OnState(StateVerb::Read)),
+            b"take" => Ok(Verb::OnState(StateVerb::Take)),
+            b"write" => Ok(Verb::OnState(StateVerb::Write)),
+            b"fields" => Ok(Verb::OnState(StateVerb::Fields)),
+            b"amplitude" => Ok(Verb::OnState(StateVerb::Amplitude)),
+            b"gate" => Ok(Verb::OnState(StateVerb::Gate)),
+            b"project" => Ok(Verb::OnState(StateVerb::Project)),
             b"split" => Ok(Verb::Split),
             b"overlap" => Ok(Verb::Overlap),
             b"same" => Ok(Verb::Same),
@@ -170,9 +188,9 @@ impl Verb {
             b"coordinates" => Ok(Verb::Coordinates),
             b"total" => Ok(Verb::Total),
             b"embed" => Ok(Verb::Embed),
-            b"check" => Ok(Verb::Check),
-            b"view" => Ok(Verb::View),
-            b"host" => Ok(Verb::Host),
+            b"check" => Ok(Verb::OnBytes(BytesVerb::Check)),
+            b"view" => Ok(Verb::OnBytes(BytesVerb::View)),
+            b"host" => Ok(Verb::OnBytes(BytesVerb::Host)),
             _ => Err(Problem::UnknownCommand),
         }
     }
@@ -183,7 +201,7 @@ pub(crate) fn parse(line: &[u8], operands: &mut Operands) -> Result<Command, Pro
     ensures { IfOk result (Names line.now) }
 {
     let mut words = Words::new(line);
-    let verb = Verb::of(words.word()?)?;
+    let verb = Verb::try_from(words.word()?)?;
     let command = parse_rest(verb, &mut words, operands)?;
     words.end()?;
     Ok(command)
@@ -207,16 +225,9 @@ fn parse_rest(
         Verb::Split => parse_split(words, operands),
         Verb::Total => parse_total(words),
         Verb::Embed => parse_embed(words),
-        Verb::Check | Verb::View | Verb::Host => parse_bytes(verb, words, operands),
-        Verb::Open
-        | Verb::Read
-        | Verb::Take
-        | Verb::Write
-        | Verb::Fields
-        | Verb::Amplitude
-        | Verb::Gate
-        | Verb::Project => {
-            let name = Name::of(words.word()?)?;
+        Verb::OnBytes(verb) => parse_bytes(verb, words, operands),
+        Verb::OnState(verb) => {
+            let name = Name::try_from(words.word()?)?;
             parse_state(verb, name, words, operands)
         }
     }
@@ -224,45 +235,45 @@ fn parse_rest(
 
 // The command on the state with a name.
 fn parse_state(
-    verb: Verb,
+    verb: StateVerb,
     name: Name,
     words: &mut Words<'_>,
     operands: &mut Operands,
 ) -> Result<Command, Problem>
-    ensures { IfOk result (λ c. OnState verb → verb_of c ≡ verb) }
+    ensures { IfOk result (λ c. verb_of c ≡ OnState verb) }
 {
     match verb {
-        Verb::Open => Ok(Command::Open {
+        StateVerb::Open => Ok(Command::Open {
             name,
             qubits: words.number()?,
         }),
-        Verb::Fields => Ok(Command::Fields { name }),
-        Verb::Amplitude => Ok(Command::Amplitude {
+        StateVerb::Fields => Ok(Command::Fields { name }),
+        StateVerb::Amplitude => Ok(Command::Amplitude {
             name,
             string: words.number()?,
         }),
-        Verb::Gate => Ok(Command::Gate {
+        StateVerb::Gate => Ok(Command::Gate {
             name,
             kind: words.number()?,
             first: words.number()?,
             second: words.number()?,
         }),
-        Verb::Project => {
+        StateVerb::Project => {
             calls::read_text(words.word()?, &mut operands.first)?;
             Ok(Command::Project { name })
         }
-        Verb::Read => {
+        StateVerb::Read => {
             words.bytes(&mut operands.first)?;
             Ok(Command::Read { name })
         }
-        Verb::Take => {
+        StateVerb::Take => {
             words.bytes(&mut operands.first)?;
             Ok(Command::Take {
                 name,
                 index: words.number()?,
             })
         }
-        _ => {
+        StateVerb::Write => {
             if words.is_empty() {
                 return Ok(Command::Write { name });
             }
@@ -274,19 +285,19 @@ fn parse_state(
 
 // The command on bytes alone.
 fn parse_bytes(
-    verb: Verb,
+    verb: BytesVerb,
     words: &mut Words<'_>,
     operands: &mut Operands,
 ) -> Result<Command, Problem>
-    ensures { IfOk result (λ c. OnBytes verb → verb_of c ≡ verb) }
+    ensures { IfOk result (λ c. verb_of c ≡ OnBytes verb) }
 {
     words.bytes(&mut operands.first)?;
     match verb {
-        Verb::Check => Ok(Command::Check),
-        Verb::View => Ok(Command::View {
+        BytesVerb::Check => Ok(Command::Check),
+        BytesVerb::View => Ok(Command::View {
             index: words.number()?,
         }),
-        _ => {
+        BytesVerb::Host => {
             words.bytes(&mut operands.second)?;
             words.bytes(&mut operands.buffer)?;
             Ok(Command::Host)
@@ -305,7 +316,7 @@ fn parse_split(words: &mut Words<'_>, operands: &mut Operands) -> Result<Command
 fn parse_total(words: &mut Words<'_>) -> Result<Command, Problem>
     ensures { IfOk result (λ c. verb_of c ≡ ToTotal) }
 {
-    let ring = RingName::of(words.word()?)?;
+    let ring = RingName::try_from(words.word()?)?;
     let times = words.number()?;
     Ok(Command::Total { ring, times })
 }
@@ -313,12 +324,10 @@ fn parse_total(words: &mut Words<'_>) -> Result<Command, Problem>
 fn parse_embed(words: &mut Words<'_>) -> Result<Command, Problem>
     ensures { IfOk result (λ c. verb_of c ≡ ToEmbed) }
 {
-    let ring = RingName::of(words.word()?)?;
+    let ring = RingName::try_from(words.word()?)?;
     let epsilon = words.number()?;
-    let power = words.signed()?;
+    let power = words.number()?;
     let turn = words.number()?;
-    match Scalar::new(epsilon, power, turn) {
-        Some(scalar) => Ok(Command::Embed { ring, scalar }),
-        None => Err(Problem::NoScalar),
-    }
+    let scalar = Scalar::new(epsilon, power, turn).ok_or(Problem::NoScalar)?;
+    Ok(Command::Embed { ring, scalar })
 }

@@ -1,6 +1,7 @@
 ghost use Rattle.std.specs.Prelude.{Some};
 ghost use Rattle.console.specs.Replies.{problem_text};
 
+use std::alloc::{AllocError, AllocFailed};
 use std::fmt;
 
 // Why a line cannot be read.
@@ -16,6 +17,18 @@ pub enum Problem {
     NoScalar,
     NoCall,
     NoMemory,
+}
+
+impl From<AllocError> for Problem {
+    fn from(_: AllocError) -> Problem {
+        Problem::NoMemory
+    }
+}
+
+impl<T: Drop> From<AllocFailed<T>> for Problem {
+    fn from(_: AllocFailed<T>) -> Problem {
+        Problem::NoMemory
+    }
 }
 
 impl fmt::Display for Problem {

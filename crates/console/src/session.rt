@@ -151,21 +151,27 @@ fn open(state: &mut StabilizerState, qubits: u64) -> Answer
     ensures kept { Denies result → state.new ≡ state.old }
     ensures opened { Opens qubits state.old result state.new }
 {
-    state.open(qubits).map_or_else(Answer::from, |()| Answer::Done)
+    state
+        .open(qubits)
+        .map_or_else(Answer::from, |()| Answer::Done)
 }
 
 fn gate(state: &mut StabilizerState, kind: u64, first: u64, second: u64) -> Answer
     ensures kept { Denies result → state.new ≡ state.old }
     ensures applied { Gates kind first second state.old result state.new }
 {
-    state.gate(kind, first, second).map_or_else(Answer::from, |()| Answer::Done)
+    state
+        .gate(kind, first, second)
+        .map_or_else(Answer::from, |()| Answer::Done)
 }
 
 fn project(state: &mut StabilizerState, text: &[u8]) -> Answer
     ensures kept { Denies result → state.new ≡ state.old }
     ensures projected { Projects text.now state.old result state.new }
 {
-    state.project(text).map_or_else(Answer::from, |()| Answer::Done)
+    state
+        .project(text)
+        .map_or_else(Answer::from, |()| Answer::Done)
 }
 
 fn read(state: &mut StabilizerState, bytes: &[u8]) -> Answer
@@ -185,7 +191,9 @@ fn take(state: &mut StabilizerState, archive: &[u8], index: u64) -> Answer
 fn amplitude(state: &StabilizerState, string: u64) -> Answer
     ensures { ShowsAmplitude string state.now result }
 {
-    state.amplitude(string).map_or_else(Answer::from, Answer::Scalar)
+    state
+        .amplitude(string)
+        .map_or_else(Answer::from, Answer::Scalar)
 }
 
 // Puts the bytes of a state into the buffer, and nothing else.

@@ -3,6 +3,9 @@ ghost use Rattle.console.specs.Words.{trimmed as trimmed_of, before};
 
 use crate::problem::Problem;
 use listing::hex::Hex;
+use std::num::ParseIntError;
+use std::str;
+use std::str::FromStr;
 
 // The words of a line that have not been read yet. Blanks stand between them.
 #[derive(Drop)]
@@ -37,24 +40,15 @@ impl<'a> Words<'a> {
     }
 
     // The next word as a number in base ten.
-    pub(crate) fn number(&mut self) -> Result<u64, Problem> {
-        number_of(self.word()?).ok_or(Problem::NoNumber)
-    }
-
-    // The next word as a number in base ten that may have a sign before it.
-    pub(crate) fn signed(&mut self) -> Result<i64, Problem> {
-        signed_of(self.word()?).ok_or(Problem::NoNumber)
+    pub(crate) fn number<N: FromStr<Err = ParseIntError>>(&mut self) -> Result<N, Problem> {
+        number_of(self.word()?)
     }
 
     // Puts the bytes that the next word stands for into `out`, in place of what it held.
     pub(crate) fn bytes(&mut self, out: &mut Vec<u8>) -> Result<(), Problem> {
-        let Some(digits) = Hex::new(self.word()?) else {
-            return Err(Problem::NoPairs);
-        };
-        match digits.decode(out) {
-            Ok(()) => Ok(()),
-            Err(_) => Err(Problem::NoMemory),
-        }
+        let digits = Hex::new(self.word()?).ok_or(Problem::NoPairs)?;
+        digits.decode(out)?;
+        Ok(())
     }
 
     // Refuses a word that is left over.
@@ -79,49 +73,21 @@ fn trimmed(line: &[u8]) -> &[u8]
 }
 
 // How many bytes stand before the first one that is `end`.
-pub(crate) fn until(line: &[u8], end: u8) -> usize
+fn until(line: &[u8], end: u8) -> usize
     ensures inside { result ≤ length line.now }
     ensures before { take result line.now ≡ before end line.now }
 {
-    for (i, byte) in line.iter().enumerate() {
-        if *byte == end {
-            return i;
-        }
-    }
-    line.len()
+    line.iter()
+        .position(|byte| *byte == end)
+        .unwrap_or(line.len())
 }
 
-// The number that a word of digits stands for, if it is one of at most 64 bits.
-pub(crate) fn number_of(word: &[u8]) -> Option<u64> {
-    if word.is_empty() {
-        return None;
+// The number that a word of digits stands for, with `-` before them where the type has a sign, if it is one of the type.
+pub(crate) fn number_of<N: FromStr<Err = ParseIntError>>(word: &[u8]) -> Result<N, Problem> {
+    // `parse` would read a plus sign
+    if let [b'+', ..] = word {
+        return Err(Problem::NoNumber);
     }
-    let mut value: u64 = 0;
-    for byte in word {
-        let digit = byte.checked_sub(b'0')?;
-        if digit > 9 {
-            return None;
-        }
-        value = value.checked_mul(10)?.checked_add(u64::from(digit))?;
-    }
-    Some(value)
-}
-
-// The number that a word of digits, or one of `-` and digits, stands for, if it is one of 64 bits with its sign.
-fn signed_of(word: &[u8]) -> Option<i64> {
-    match word {
-        [b'-', digits @ ..] => negated(number_of(digits)?),
-        _ => i64::try_from(number_of(word)?).ok(),
-    }
-}
-
-// The number with a minus sign.
-fn negated(size: u64) -> Option<i64> {
-    if size == 1 << 63 {
-        return Some(i64::MIN);
-    }
-    match i64::try_from(size) {
-        Ok(size) => Some(-size),
-        Err(_) => None,
-    }
+    let digits = str::from_utf8(word).map_err(|_| Problem::NoNumber)?;
+    digits.parse().map_err(|_| Problem::NoNumber)
 }

@@ -4,7 +4,6 @@
 
 use circuit::call::Call;
 use circuit::division::split;
-use listing::text::ScalarText;
 use stabilizer::state::StabilizerState;
 
 const QUBITS: u64 = 3;
@@ -12,7 +11,7 @@ const QUBITS: u64 = 3;
 fn main(rt: HostRuntime) -> anyhow::Result<()> {
     let mut s = StabilizerState::new();
     if let Err(refusal) = s.open(QUBITS) {
-        println!(rt; "refused {}", refusal.number())?;
+        println!(rt; "{refusal}")?;
         return Ok(());
     }
     let t = s;
@@ -27,10 +26,10 @@ fn main(rt: HostRuntime) -> anyhow::Result<()> {
                 } else {
                     "."
                 };
-                println!(rt; "{place}: {} {mark}", ScalarText(scalar))?;
+                println!(rt; "{place}: {scalar} {mark}")?;
             }
             Ok(None) => println!(rt; "{place}: aside")?,
-            Err(refusal) => println!(rt; "{place}: refused {}", refusal.number())?,
+            Err(refusal) => println!(rt; "{place}: {refusal}")?,
         }
     }
     Ok(())

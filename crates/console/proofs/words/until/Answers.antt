@@ -1,10 +1,14 @@
-use Rattle.std.proofs.Common.{arith}
-use Rattle.console.proofs.Before.{before-at, before-all}
+use Rattle.std.proofs.Common.{◌∙◌, ap, rules, take, eqb}
+use Rattle.std.proofs.lemmas.Iterator.{YieldsList-from_slice}
+use Rattle.std.proofs.lemmas.Iterator.Search.{position_from_yields_List}
+use borrow.Author.Tests.{tests}
+use Rattle.std.specs.Prelude.{length}
+use Rattle.std.specs.Option.{unwrap_or}
+use Rattle.console.proofs.Before.{first_or_all}
 use Rattle.console.proofs.words.until.Goals as goal
 
-pub returns-then-byte-end-clause-before : goal.returns-then-byte-end-clause-before
-returns-then-byte-end-clause-before c =
-    before-at c.args.end c.args.line.now c.loop-i.i c.loop-i.invariant c.loop-i-test.true c.if-byte-end.true
-
 pub returns-clause-before : goal.returns-clause-before
-returns-clause-before c = before-all c.args.end c.args.line.now (λ k h. c.loop-i.invariant k (omega arith))
+returns-clause-before c =
+    let xs = c.args.line.now in
+    let e = position_from_yields_List (λ x. eqb x c.args.end) _ _ _ c.position.ensures.ran (YieldsList-from_slice xs cc) (λ x b q k. search (rules, tests)) in
+    ap (λ k. take k xs) (c.unwrap_or.ensures ∙ ap (λ o. unwrap_or o (length xs)) e ∙ first_or_all (λ x. eqb x c.args.end) xs)
