@@ -93,4 +93,4 @@ sum-known x r y h k f e = value-known r y (floor x h.bounds) k f (h.exact ∙ sy
   where
     floor : (x : Intersection) → Bounded x r → Floor 0 (triple_of r)
     floor Empty b o = let z = ap (λ t. t.0) b in absurd (omega arith)
-    floor (Space s) b o = let h = b o in (h.0, +ℤ_idl r.power ∙ h.1)
+    floor (Space s) b o = let h = b o in (h.0, +ℤ_idl (triple_of r).1 ∙ h.1)

@@ -1,5 +1,5 @@
 use Rattle.std.proofs.Common.{◌≡◌, ◌+◌, ◌≤◌, pos, ◌+ℤ◌, neg_ℤ, sym, refl, ◌∙◌, ap₂, arith}
-use Rattle.cyclotomic.specs.Scalars.{unit}
+use Rattle.cyclotomic.specs.Scalars.{triple_of, unit}
 use Rattle.stabilizer.specs.Overlaps.{depth}
 use Rattle.stabilizer.proofs.Inner.{overlaps}
 use Rattle.stabilizer.proofs.Powers.{zero-lowered, term-lowered, sum-power, subtracted}
@@ -27,7 +27,7 @@ returns c =
     let i = c.in_ok-intersect.ensures in
     let x = c.exponential_sum-sum.result in
     let k = depth t + depth s in
-    let ne = λ (z : x.epsilon ≡ 0). c.if-epsilon-eq0.false (c.epsilon.ensures ∙ z) in
+    let ne = λ (z : (triple_of x).0 ≡ 0). c.if-epsilon-eq0.false (c.epsilon.ensures ∙ z) in
     let p = sum-power c.intersect.new.out x c.exponential_sum-sum.ensures.bounds ne in
     let low : c.depth.result + c.depth-2.result ≤ 10000 = omega (arith, c.depth.ensures.bound, c.depth-2.ensures.bound) in
     let power = subtracted c.power.result p.0 (c.depth.result + c.depth-2.result) (c.power.ensures ∙ p.1) p.2 low
