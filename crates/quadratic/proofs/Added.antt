@@ -1,5 +1,5 @@
 -- A fresh running sum that is handed one intersection again and again.
-use Rattle.std.proofs.Common.{◌≡◌, ℕ, ◌+◌, ◌<◌, ◌≤◌, Bool, true, false, cond, nat_lt, nat_le, refl, ap, sym, ◌∙◌, pow_mono, ◌-◌, ◌^◌, arith}
+use Rattle.std.proofs.Common.{◌≡◌, ℕ, ◌<◌, ◌≤◌, refl, ap, sym, ◌∙◌, pow_mono, ◌-◌, ◌^◌, arith}
 use lib.Count.{ones-le}
 use Rattle.cyclotomic.specs.Refusals.{number_of}
 use Rattle.cyclotomic.specs.Ring.{Ops, RingLaws}
