@@ -7,7 +7,7 @@ pub mod description;
 pub mod fault_line;
 pub mod fields;
 pub mod hex;
-pub mod overlap_line;
+pub mod line;
 pub mod pair;
 mod pairs;
 pub mod sheets;

@@ -3,7 +3,7 @@
 #![tactic(auto)]
 
 use listing::hex::Hex;
-use listing::sheets::write_listing;
+use listing::sheets::{Document, Listing};
 use std::io;
 use std::io::{BufRead, BufReader, BufWriter, Write};
 use worked::worked_examples;
@@ -22,7 +22,7 @@ fn main(rt: HostRuntime) -> io::Result<()> {
         match Hex::new(without_break(&line)) {
             Some(digits) => {
                 digits.decode(&mut archive)?;
-                write_listing(rt.alloc(), &mut out, &archive)?;
+                Listing::write(rt.alloc(), &mut out, &archive)?;
             }
             None => out.write_all(b"? pairs of hexadecimal digits are wanted, or - for none\n")?,
         }

@@ -1,7 +1,7 @@
 // Worked examples, run.
 use archive::codec::{read, write};
 use cyclotomic::refusal::Refusal;
-use listing::sheets::write_listing;
+use listing::sheets::{Document, Listing};
 use stabilizer::overlap::overlap;
 use stabilizer::state::StabilizerState;
 use std::io;
@@ -112,7 +112,7 @@ fn answers_c_in_four_bytes(rt: HostRuntime) {
 #[test]
 fn lists_two_states(rt: HostRuntime) -> io::Result<()> {
     let mut text = Vec::new(rt.alloc());
-    write_listing(
+    Listing::write(
         rt.alloc(),
         &mut text,
         &[2, 0x04, 0x10, 0x00, 0x88, 0x04, 0x10, 0x00, 0x89],
@@ -121,7 +121,7 @@ fn lists_two_states(rt: HostRuntime) -> io::Result<()> {
         "sheets 2\n1 2 1 -3 1 05 0000000000000001000000000000000000000000000000010000000000000000 .\n";
     assert!(rt; text.as_slice() == listing.as_bytes());
     text.clear();
-    write_listing(rt.alloc(), &mut text, &[2, 0x04, 0x10, 0x00, 0x88])?;
+    Listing::write(rt.alloc(), &mut text, &[2, 0x04, 0x10, 0x00, 0x88])?;
     assert!(rt; text.as_slice() == "fault 1 1 2 1 40\n".as_bytes());
     Ok(())
 }

@@ -4,7 +4,7 @@ use Rattle.std.proofs.KnownBytes.{Appends-trans}
 use Rattle.std.proofs.lemmas.List.{drop_more}
 use Rattle.stabilizer.specs.declared.state.StabilizerState.{StabilizerState}
 use Rattle.listing.specs.Fields.{fields_text, state_line, state_lines}
-use Rattle.listing.proofs.description.write_states.Goals as goal
+use Rattle.listing.proofs.description.write_fields.Goals as goal
 
 -- the line of the state at the place i, and the lines of those behind it
 next : (ss : List StabilizerState) (i : ℕ) (s : StabilizerState) (done : List ℕ) → i < length ss → s ≡ get_or ss i s

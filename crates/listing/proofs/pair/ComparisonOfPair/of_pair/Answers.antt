@@ -1,12 +1,12 @@
 use Rattle.std.proofs.Common.{refl}
-use Rattle.listing.proofs.pair.compare.Goals as goal
+use Rattle.listing.proofs.pair.ComparisonOfPair.of_pair.Goals as goal
 
 pub returns : goal.returns
 returns c =
     let o = c.in_ok-overlap.ensures in
     record {
       number = o.number;
-      value = record {
+      told = record {
         overlap = o.value;
         both = c.overlap_into.new.out;
         shared = o.granted refl;

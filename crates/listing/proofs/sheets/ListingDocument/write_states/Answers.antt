@@ -2,7 +2,7 @@ use Rattle.std.proofs.Common.{◌++◌, length, refl}
 use Rattle.std.proofs.KnownBytes.{Appends-trans}
 use Rattle.std.proofs.lemmas.Result.{on_ok_weaker}
 use Rattle.listing.specs.Listings.{sheets_text}
-use Rattle.listing.proofs.sheets.write_sheets.Goals as goal
+use Rattle.listing.proofs.sheets.ListingDocument.write_states.Goals as goal
 
 pub returns : goal.returns
 returns g c =
