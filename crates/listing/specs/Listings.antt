@@ -7,10 +7,10 @@ use Rattle.archive.specs.declared.fault.ArchiveFault.{ArchiveFault}
 use Rattle.stabilizer.specs.Overlaps.{Overlaps}
 use Rattle.stabilizer.specs.declared.state.StabilizerState.{StabilizerState}
 use Rattle.listing.specs.Fields.{state_lines}
-use Rattle.listing.specs.Lines.{Compares, LineTells, line_numbers}
+use Rattle.listing.specs.Lines.{Compares}
 use Rattle.listing.specs.Pairs.{IsPair, Lines}
 use Rattle.listing.specs.Written.{ended}
-use Rattle.listing.specs.Texts.{comparison_text, line_text, report_text, scalar_text}
+use Rattle.listing.specs.Texts.{comparison_text, report_text, scalar_text}
 
 -- the number of states
 abbrev pub sheets_text : ℕ → List ℕ
@@ -24,13 +24,13 @@ line_of_fault f = ended (report_text (archive_report f))
 pub record ListsStates (states : List StabilizerState) (text : List ℕ) : Type 0 where
   pub rest : List ℕ
   pub whole : text ≡ sheets_text (length states) ++ rest
-  pub pairs : Lines (line_text comparison_text) line_numbers (LineTells Compares) states (IsPair (length states)) rest
+  pub pairs : Lines comparison_text Compares states (IsPair (length states)) rest
 
 -- the description of states: how many there are, the fields of each, and a line for each pair
 pub record DescribesStates (states : List StabilizerState) (text : List ℕ) : Type 0 where
   pub rest : List ℕ
   pub whole : text ≡ sheets_text (length states) ++ (state_lines 1 states ++ rest)
-  pub pairs : Lines (line_text scalar_text) line_numbers (LineTells Overlaps) states (IsPair (length states)) rest
+  pub pairs : Lines scalar_text Overlaps states (IsPair (length states)) rest
 
 -- the states of an archive in turn, and P of them and the text
 pub record OnStates (P : List StabilizerState → List ℕ → Type 0) (archive text : List ℕ) : Type 0 where

@@ -1,7 +1,5 @@
 ghost use Rattle.std.specs.Prelude.{◌+◌, ◌<◌, length, OnOk};
-ghost use Rattle.listing.specs.Lines.{LineTells, line_numbers};
 ghost use Rattle.listing.specs.Pairs.{IsPair, IsPairOf, Lines};
-ghost use Rattle.listing.specs.Texts.{line_text};
 ghost use Rattle.listing.specs.Written.{Writes};
 
 use crate::line::Line;
@@ -15,7 +13,7 @@ pub(crate) fn write_pairs<T: OfPair, O: Write>(
     out: &mut O,
     states: &[StabilizerState],
 ) -> io::Result<()>
-    ensures { OnOk result (Writes (Lines (line_text T.text) line_numbers (LineTells T.tells) states.now (IsPair (length states.now)))
+    ensures { OnOk result (Writes (Lines T.text T.tells states.now (IsPair (length states.now)))
         (O.contents out.old) (O.contents out.new)) }
 {
     for i in 0..states.len() {
@@ -31,7 +29,7 @@ fn write_pairs_of<T: OfPair, O: Write>(
     i: usize,
 ) -> io::Result<()>
     requires { i < length states.now }
-    ensures { OnOk result (Writes (Lines (line_text T.text) line_numbers (LineTells T.tells) states.now (IsPairOf (i + 1) (length states.now)))
+    ensures { OnOk result (Writes (Lines T.text T.tells states.now (IsPairOf (i + 1) (length states.now)))
         (O.contents out.old) (O.contents out.new)) }
 {
     for (k, s) in states[i + 1..].iter().enumerate() {

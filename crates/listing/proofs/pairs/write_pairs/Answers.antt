@@ -1,7 +1,5 @@
 use Rattle.std.proofs.Common.{ℕ, ◌+◌, ◌≤◌, inl, inr, length, arith}
-use Rattle.listing.specs.Lines.{LineTells, line_numbers}
 use Rattle.listing.specs.Pairs.{IsPair, IsPairOf}
-use Rattle.listing.specs.Texts.{line_text}
 use Rattle.listing.proofs.Numbered.{Joined, Writes-append, Writes-nil, Writes-same}
 use Rattle.listing.proofs.pairs.write_pairs.Goals as goal
 
@@ -20,17 +18,17 @@ next n i =
 
 pub loop-i-init : goal.loop-i-init
 loop-i-init g c =
-    Writes-nil (line_text g.T.OfPair.text) line_numbers (LineTells g.T.OfPair.tells) _ (UpTo (length c.args.states.now) _) _ (λ p h. omega arith)
+    Writes-nil g.T.OfPair.text g.T.OfPair.tells _ (UpTo (length c.args.states.now) _) _ (λ p h. omega arith)
 
 pub loop-i-preserved : goal.loop-i-preserved
 loop-i-preserved g c =
     let n = length c.args.states.now in
     let i = c.loop-i.i in
-    Writes-append (line_text g.T.OfPair.text) line_numbers (LineTells g.T.OfPair.tells) _ (UpTo n i) (IsPairOf (i + 1) n) (UpTo n (i + 1))
+    Writes-append g.T.OfPair.text g.T.OfPair.tells _ (UpTo n i) (IsPairOf (i + 1) n) (UpTo n (i + 1))
     _ _ _ (next n i) c.loop-i.invariant c.in_ok-write_pairs_of.ensures
 
 pub returns : goal.returns
 returns g c =
     let n = length c.args.states.now in
-    Writes-same (line_text g.T.OfPair.text) line_numbers (LineTells g.T.OfPair.tells) _ (UpTo n c.loop-i.i) (IsPair n) _ _
+    Writes-same g.T.OfPair.text g.T.OfPair.tells _ (UpTo n c.loop-i.i) (IsPair n) _ _
     (λ p h. h.0) (λ p h. (h, omega arith)) c.loop-i.invariant

@@ -2,15 +2,14 @@ use Rattle.std.proofs.Common.{◌≡◌, ℕ, ◌+◌, ◌-◌, ◌<◌, ◌≤�
 use Rattle.std.proofs.lemmas.List.{get_or-drop}
 use Rattle.std.proofs.lemmas.Option.{slice_get_read}
 use Rattle.std.specs.Prelude.{slice_get}
-use Rattle.listing.specs.Lines.{LineTells, line_numbers}
+use Rattle.listing.specs.Lines.{LineTells}
 use Rattle.listing.specs.Pairs.{IsPairOf, HoldsOf}
-use Rattle.listing.specs.Texts.{line_text}
 use Rattle.listing.proofs.Numbered.{Joined, HoldsOf-at, Writes-line, Writes-nil, Writes-same}
 use Rattle.listing.proofs.pairs.write_pairs_of.Goals as goal
 
 pub loop-k-init : goal.loop-k-init
 loop-k-init g c =
-    Writes-nil (line_text g.T.OfPair.text) line_numbers (LineTells g.T.OfPair.tells) _ (IsPairOf (c.args.i + 1) (c.args.i + 1 + 0)) _
+    Writes-nil g.T.OfPair.text g.T.OfPair.tells _ (IsPairOf (c.args.i + 1) (c.args.i + 1 + 0)) _
     (λ p h. omega arith)
 
 -- the pairs up to j, and the one with j + 1
@@ -40,7 +39,7 @@ loop-k-preserved g c =
     let told : HoldsOf (LineTells g.T.OfPair.tells line) states (i + 1, j + 1) =
     HoldsOf-at (LineTells g.T.OfPair.tells line) states i j _ _ first second
     (record { number = c.new-line.ensures.number; told = c.new-line.ensures.told }) in
-    Writes-line (line_text g.T.OfPair.text) line_numbers (LineTells g.T.OfPair.tells) states (IsPairOf (i + 1) j)
+    Writes-line g.T.OfPair.text g.T.OfPair.tells states (IsPairOf (i + 1) j)
     (IsPairOf (i + 1) (i + 1 + (k + 1))) (g.O.Write.contents c.args.out.now) (g.O.Write.contents c.loop-k.out)
     (g.O.Write.contents c.writeln.new.self) line (i + 1, j + 1) (next (i + 1) j _ (omega arith) (omega arith) (omega arith))
     c.loop-k.invariant (ap₂ (λ (a b : ℕ). (a, b)) c.new-line.ensures.first c.new-line.ensures.second) told
@@ -53,5 +52,5 @@ returns g c =
     let n = length states - (i + 1) in
     let all : length (drop (i + 1) states) ≡ n = length-drop (i + 1) states in
     let size : i + 1 + c.loop-k.k ≡ length states = omega (arith, length-take-le n (drop (i + 1) states) (omega arith)) in
-    Writes-same (line_text g.T.OfPair.text) line_numbers (LineTells g.T.OfPair.tells) states (IsPairOf (i + 1) (i + 1 + c.loop-k.k))
+    Writes-same g.T.OfPair.text g.T.OfPair.tells states (IsPairOf (i + 1) (i + 1 + c.loop-k.k))
     (IsPairOf (i + 1) (length states)) _ _ (λ p h. (omega arith, omega arith)) (λ p h. (omega arith, omega arith)) c.loop-k.invariant

@@ -1,11 +1,9 @@
 use Rattle.std.proofs.Common.{◌+◌}
-use Rattle.listing.specs.Lines.{LineTells, line_numbers}
 use Rattle.listing.specs.Pairs.{IsPairOf, Lines}
-use Rattle.listing.specs.Texts.{line_text}
 use Rattle.listing.specs.Written.{Writes}
 use Rattle.listing.proofs.pairs.write_pairs_of.Given as goal
 
 abbrev pub invariant-loop-k : goal.invariant-loop-k
 invariant-loop-k g l =
-    Writes (Lines (line_text g.T.OfPair.text) line_numbers (LineTells g.T.OfPair.tells) l.states (IsPairOf (l.i + 1) (l.i + 1 + l.k)))
+    Writes (Lines g.T.OfPair.text g.T.OfPair.tells l.states (IsPairOf (l.i + 1) (l.i + 1 + l.k)))
     (g.O.Write.contents l.fn.out) (g.O.Write.contents l.out)
