@@ -19,11 +19,8 @@ impl<C: Column> fmt::Display for ColumnText<C> {
 
     fn fmt<W: fmt::Write>(&self, f: &mut fmt::Formatter<W>) -> fmt::Result {
         let digits = column_digits(self.0);
-        let width = C::DIGITS;
-        if width > WIDEST {
-            return Err(fmt::Error);
-        }
-        write_ascii(f, &digits[0..width])
+        let shown = digits.get(..C::DIGITS).ok_or(fmt::Error)?;
+        write_ascii(f, shown)
     }
 }
 
@@ -32,8 +29,8 @@ pub fn column_digits<C: Column>(value: C) -> [u8; WIDEST]
     ensures { (k : ℕ) → k < 64 → slice_index result k ≡ glyph_of (C.Column.digit_of value k) }
 {
     let mut digits = [0; WIDEST];
-    for place in 0..WIDEST {
-        digits[place] = glyph(value.digit(place));
+    for (place, digit) in digits.iter_mut().enumerate() {
+        *digit = glyph(value.digit(place));
     }
     digits
 }

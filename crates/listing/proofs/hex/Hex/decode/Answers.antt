@@ -1,13 +1,17 @@
-use Rattle.std.proofs.Common.{◌≡◌, ℕ, get_or, vec_items, vec_len, sym, refl, ap, ◌∙◌, arith, rules, below_more}
+use Rattle.std.proofs.Common.{rules, ◌≡◌, ℕ, ◌%◌, ◌<◌, ◌≤◌, length, IfSome, Some, MatchBool, MatchOption, OnOk, ◌+◌, ◌-◌, ◌*◌, ◌/◌, Bool, true, false, nat_eq, nat_lt, List, [], ◌∷◌, ◌++◌, slice_index_or, slice_set, bit_and, bit_or, Fits, w8, w32, w64, Bor, MutBor}
+use Rattle.std.specs.Option.{unwrap_or}
+use Rattle.std.specs.Fmt.{WritesOnOk}
+use Rattle.listing.specs.Digits.{glyph_of, nibble_of, Digits, Paired, digits_of, Decoded, byte_text, hex_text}
 use Rattle.listing.proofs.hex.Hex.decode.Goals as goal
 
-pub loop-i-preserved : goal.loop-i-preserved
-loop-i-preserved c =
-    let pushed = c.in_ok-push.ensures in
-    let so_far : vec_len c.loop-i.out ≡ c.loop-i.i = c.loop-i.invariant.0 in (
-      search rules,
-      below_more _ _
-          (λ k h. pushed.by_index.0 k 0 (omega (arith, so_far)) ∙ c.loop-i.invariant.1 k h)
-          (ap (λ (n : ℕ). get_or (vec_items c.push.new.self) n 0) (sym so_far)
-          ∙ (pushed.by_index.1 0 refl ∙ omega (arith, c.nibble_or_zero-high.ensures.0, c.nibble_or_zero-low.ensures.0))),
-    )
+-- src/hex.rt:59:9
+pub loop-pair-init : goal.loop-pair-init
+loop-pair-init c = ?
+
+-- src/hex.rt:59:9
+pub loop-pair-preserved : goal.loop-pair-preserved
+loop-pair-preserved c = ?
+
+-- src/hex.rt:55:5
+pub returns : goal.returns
+returns c = ?

@@ -1,6 +1,8 @@
-use Rattle.std.proofs.Common.{◌≡◌, ℕ, ◌<◌, get_or, vec_items, vec_len}
-use Rattle.listing.specs.Digits.{byte_at}
+use Rattle.std.proofs.Common.{◌≡◌, ℕ, ◌%◌, ◌<◌, ◌≤◌, length, IfSome, Some, MatchBool, MatchOption, OnOk, ◌+◌, ◌-◌, ◌*◌}
+use Rattle.std.specs.Option.{unwrap_or}
+use Rattle.std.specs.Fmt.{WritesOnOk}
+use Rattle.listing.specs.Digits.{glyph_of, nibble_of, Digits, Paired, digits_of, Decoded, byte_text, hex_text}
 use Rattle.listing.proofs.hex.Hex.decode.Given as goal
 
-abbrev pub invariant-loop-i : goal.invariant-loop-i
-invariant-loop-i l = (vec_len l.out ≡ l.i) × ((k : ℕ) → k < l.i → get_or (vec_items l.out) k 0 ≡ byte_at l.self.digits.now k)
+abbrev pub invariant-loop-pair : goal.invariant-loop-pair
+invariant-loop-pair l = ?
