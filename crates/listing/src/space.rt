@@ -78,10 +78,14 @@ impl fmt::Display for RowsText<'_> {
     fn fmt<W: fmt::Write>(&self, f: &mut fmt::Formatter<W>) -> fmt::Result {
         let space = self.space;
         let length = self.qubits;
-        write_joined(f, space.dimension(), |a| BitsText {
-            string: space.row(a).unwrap_or(0),
-            length,
-        })
+        write_joined(
+            f,
+            space.dimension(),
+            |a| BitsText {
+                string: space.row(a).unwrap_or(0),
+                length,
+            },
+        )
     }
 }
 

@@ -1,4 +1,4 @@
-use Rattle.std.proofs.Common.{◌≡◌, ◌<◌, nat_lt, true, ◌∙◌, arith}
+use Rattle.std.proofs.Common.{◌≡◌, nat_lt, true, ◌∙◌, arith}
 use Rattle.std.proofs.Output.{has_written_of_eq}
 use Rattle.std.proofs.lemmas.Bool.Decides.{nat_tests}
 use Rattle.listing.specs.Fields.{up_to}

@@ -1,8 +1,12 @@
-use Rattle.std.proofs.Common.{◌≡◌, ℕ, ◌%◌, ◌<◌, ◌≤◌, length, IfSome, Some, MatchBool, MatchOption, OnOk, ◌+◌, ◌-◌, ◌*◌}
-use Rattle.std.specs.Option.{unwrap_or}
-use Rattle.std.specs.Fmt.{WritesOnOk}
-use Rattle.listing.specs.Digits.{glyph_of, nibble_of, Digits, Paired, digits_of, Decoded, byte_text, hex_text}
+use Rattle.std.proofs.Common.{◌≡◌, ℕ, ◌*◌, ◌<◌, ◌≤◌, length, drop, get_or, vec_items, vec_len}
+use Rattle.listing.specs.Digits.{byte_at}
 use Rattle.listing.proofs.hex.Hex.decode.Given as goal
 
 abbrev pub invariant-loop-pair : goal.invariant-loop-pair
-invariant-loop-pair l = ?
+invariant-loop-pair l =
+    record {
+      size : l.pair-iterator.size ≡ 2;
+      within : 2 * vec_len l.out ≤ length l.self.digits.now;
+      rest : l.pair-iterator.rest.now ≡ drop (2 * vec_len l.out) l.self.digits.now;
+      each : (k : ℕ) → k < vec_len l.out → get_or (vec_items l.out) k 0 ≡ byte_at l.self.digits.now k;
+    }
