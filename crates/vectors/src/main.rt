@@ -14,12 +14,13 @@ fn main(rt: HostRuntime) -> io::Result<()> {
     let mut out = BufWriter::new(rt.alloc(), rt.stdout())?;
     let mut line = Vec::new(rt.alloc());
     let mut archive = Vec::new(rt.alloc());
+    // a count, since no contract says that standard input has an end
     for _ in 0..u64::MAX {
         line.clear();
         if input.read_until(b'\n', &mut line)? == 0 {
             break;
         }
-        match Hex::new(without_break(&line)) {
+        match Hex::new(line.strip_suffix(b"\n").unwrap_or(&line)) {
             Some(digits) => {
                 digits.decode(&mut archive)?;
                 Listing::write(rt.alloc(), &mut out, &archive)?;
@@ -29,12 +30,4 @@ fn main(rt: HostRuntime) -> io::Result<()> {
         out.write_all(b"\n")?;
     }
     out.flush()
-}
-
-// The line without its line break.
-fn without_break(line: &[u8]) -> &[u8] {
-    match line {
-        [text @ .., b'\n'] => text,
-        text => text,
-    }
 }
