@@ -134,10 +134,10 @@ impl StabilizerState {
         if string >> self.qubits != 0 {
             return Err(Refusal::StringNumber);
         }
-        match self.body.phase_at(string) {
-            Some(m) => Ok(Scalar::term(-(self.depth() as i64), m as u64)),
-            None => Ok(Scalar::zero()),
-        }
+        let Some(phase) = self.body.phase_at(string) else {
+            return Ok(Scalar::zero());
+        };
+        Ok(Scalar::term(-(self.depth() as i64), phase as u64))
     }
 
     // Whether two states have the same number of qubits and the same amplitudes.
@@ -145,12 +145,7 @@ impl StabilizerState {
         ensures sound { T result → SameState self.now other.now }
         ensures complete { SameState self.now other.now → T result }
     {
-        if self.qubits != other.qubits {
-            return false;
-        }
-        if self.loss != other.loss {
-            return false;
-        }
-        self.body.same(&other.body)
+        // not self == other: there the proof lacks the lengths of the arrays that the body holds
+        (self.qubits, self.loss) == (other.qubits, other.loss) && self.body.same(&other.body)
     }
 }
