@@ -12,7 +12,7 @@ use Rattle.cyclotomic.specs.Sum.{sum_to}
 use Rattle.cyclotomic.specs.CommFacts
 use Rattle.cyclotomic.specs.declared.scalar.Scalar.{Scalar}
 use Rattle.cyclotomic.proofs.Exact.{bar, bar-nil, Floor, scaled-nought, scaled-zero, scaled-one, scaled-product, scaled-nil}
-use Rattle.cyclotomic.proofs.Exact.{scaled-same, scalar-kind, kind-turn}
+use Rattle.cyclotomic.proofs.Exact.{scalar-kind, kind-turn}
 use Rattle.cyclotomic.proofs.Ints.{omega-laws}
 use Rattle.cyclotomic.proofs.RingFacts
 use Rattle.cyclotomic.proofs.Sums

@@ -8,7 +8,7 @@ use cyclotomic::refusal::Refusal;
 use quadratic::phased::PhasedSpace;
 
 // The gates, in the order of their numbers from 1 on.
-#[derive(Clone, Copy)]
+#[derive(Clone, Copy, Debug, PartialEq, Eq)]
 pub enum Gate {
     X,
     Z,
@@ -41,12 +41,10 @@ impl Gate {
     pub fn takes(self, qubits: u64, j: u64, l: u64) -> bool
         ensures { result ≡ taken_by self qubits j l }
     {
-        if j < 1 || j > qubits {
-            return false;
-        }
+        let is_qubit = |a| (1..=qubits).contains(&a);
         match self {
-            Gate::X | Gate::Z | Gate::S | Gate::SDagger => l == 0,
-            Gate::CNot | Gate::CZ => l >= 1 && l <= qubits && j != l,
+            Gate::X | Gate::Z | Gate::S | Gate::SDagger => is_qubit(j) && l == 0,
+            Gate::CNot | Gate::CZ => is_qubit(j) && is_qubit(l) && j != l,
         }
     }
 

@@ -16,9 +16,9 @@ use quadratic::phased::PhasedSpace;
 // over, times i^quarters, and times -1 where y has an odd parity with `signs`.
 #[derive(Clone, Copy, Default)]
 pub(crate) struct PauliMasks {
-    pub(crate) flips: u64,
-    pub(crate) signs: u64,
-    pub(crate) quarters: u8,
+    flips: u64,
+    signs: u64,
+    quarters: u8,
 }
 
 impl PauliMasks {
@@ -34,9 +34,8 @@ impl PauliMasks {
         let turned = sign_quarters(text[0]).ok_or(Refusal::Letter)?;
         let masks = PauliMasks::read_letters(&text[1..])?;
         Ok(PauliMasks {
-            flips: masks.flips,
-            signs: masks.signs,
             quarters: masks.quarters + turned,
+            ..masks
         })
     }
 
@@ -74,9 +73,7 @@ impl PauliMasks {
             quarters: self.quarters + (flip * sign) as u8,
         })
     }
-}
 
-impl PauliMasks {
     // Adds to the phased space what the operator makes of it: it is left as it was, nothing is left of it, or it is restricted to what
     // the operator leaves as it is.
     pub(crate) fn project(&self, body: &mut PhasedSpace) -> Outcome

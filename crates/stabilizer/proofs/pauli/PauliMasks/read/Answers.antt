@@ -2,7 +2,7 @@ use Rattle.std.proofs.Common.{◌≤◌, length, drop, Err, sym, ap, ◌∙◌, 
 use Rattle.std.proofs.lemmas.List.{take_rest}
 use Rattle.std.proofs.lemmas.Result.{err_from_is_err_and}
 use Rattle.cyclotomic.specs.Refusals.{answer_of}
-use Rattle.stabilizer.proofs.Texts.{sign-bad, letters-bad, text-good, masked}
+use Rattle.stabilizer.proofs.Texts.{letters-bad, text-good, masked}
 use Rattle.stabilizer.proofs.pauli.PauliMasks.read.Goals as goal
 
 pub returns-in_err-masks : goal.returns-in_err-masks

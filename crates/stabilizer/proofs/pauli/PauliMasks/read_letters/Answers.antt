@@ -1,10 +1,7 @@
-use Rattle.std.proofs.Common.{rules, ◌≡◌, ℕ, suc, ◌^◌, ◌<◌, ◌≤◌, length, List, [], ◌∷◌, ◌++◌, Err, refl, sym, ap, ◌∙◌, subst, arith}
-use Rattle.std.proofs.lemmas.List.{append_assoc, nil_from_length}
+use Rattle.std.proofs.Common.{rules, ◌≡◌, suc, length, [], ◌∷◌, ◌++◌, Err, refl, sym, ap, ◌∙◌}
+use Rattle.std.proofs.lemmas.List.{nil_from_length}
 use Rattle.std.proofs.lemmas.Result.{err_from_is_err_and}
-use Rattle.stabilizer.specs.Masks.{MaskedLetters}
-use Rattle.stabilizer.specs.Paulis.{letters_of}
-use Rattle.stabilizer.specs.declared.pauli.PauliMasks.{PauliMasks}
-use Rattle.stabilizer.proofs.Texts.{ReadBehind, behind-more, below-place, masks-none, letter-more, letter-bad}
+use Rattle.stabilizer.proofs.Texts.{behind-more, below-place, masks-none, letter-more, letter-bad}
 use Rattle.stabilizer.proofs.pauli.PauliMasks.read_letters.Goals as goal
 
 pub loop-place-init : goal.loop-place-init

@@ -1,4 +1,3 @@
-use Rattle.std.proofs.Common.{List}
 use Rattle.stabilizer.proofs.Texts.{ReadBehind}
 use Rattle.stabilizer.proofs.pauli.PauliMasks.read_letters.Given as goal
 
