@@ -8,37 +8,39 @@ use Rattle.cyclotomic.specs.Scalars.{triple_of, embedded, chosen, Negative}
 use Rattle.cyclotomic.specs.declared.scalar.Scalar.{Scalar}
 use Rattle.cyclotomic.proofs.Extend.{transfer, transfer-nil}
 use Rattle.cyclotomic.proofs.Scalars.{exact-not-nil}
+use Rattle.quadratic.proofs.Cases.{by_space}
 use Rattle.quadratic.specs.Numbering.{spread}
-use Rattle.quadratic.specs.Sums.{Bounded, Vanishing, total}
+use Rattle.quadratic.specs.Sums.{Bounded, Vanishing, sum_over, total}
 use Rattle.quadratic.specs.Value.{value_at}
 use Rattle.quadratic.specs.declared.intersection.Intersection.{Intersection}
-use Rattle.quadratic.specs.declared.intersection.Intersection.TheVariants.{Empty, Space}
 use Rattle.quadratic.specs.declared.phased.PhasedSpace.{PhasedSpace}
 
 not_negative : (p : ℕ) (z : ℤ) → z ≡ pos p → z <ℤ pos 0 → ⊥
 not_negative p z e l = omega (arith, ints)
 
+-- the power of a sum that is not 0 is a number
+power_of : (i : Intersection) (x : Scalar) → Bounded i x → x.epsilon ≡ 1 → (p : ℕ) × (x.power ≡ pos p)
+power_of i x =
+    by_space (λ i. Bounded i x → x.epsilon ≡ 1 → (p : ℕ) × (x.power ≡ pos p))
+    (λ b one. let z : ◌≡◌ {A = ℕ} 0 1 = sym (ap (λ t. t.0) b) ∙ one in absurd (omega arith))
+    (λ s b one. let p = b one in (p.0, p.1)) i
+
 -- the power of an exponential sum is not negative
 pub sum_fits : (i : Intersection) (x : Scalar) → Bounded i x → Negative (triple_of x) → ⊥
-sum_fits Empty x b n = not_negative 0 x.power (ap (λ t. t.1) b) n
-sum_fits (Space s) x b n = go x.epsilon refl
+sum_fits i x b n = go x.epsilon refl
   where
     go : (a : ℕ) → x.epsilon ≡ a → ⊥
     go zero e = not_negative 0 x.power (x.still e) n
-    go (suc a) e = let l = x.digit in let p = b (omega arith) in not_negative p.0 x.power p.1 n
+    go (suc a) e = let l = x.digit in let p = power_of i x b (omega arith) in not_negative p.0 x.power p.1 n
 
 -- an exponential sum is 0 exactly where the sum over all strings is
 pub vanishing : (i : Intersection) (x : Scalar) → Bounded i x → embedded omegas (triple_of x) ≡ total omegas i → Vanishing i x
 vanishing i x b e = record {
   vanishes = λ z. sym e
       ∙ ap (λ a. chosen omegas a x.power x.turn) z;
-  only = λ n. go x.epsilon refl (power i b) n;
+  only = λ n. go x.epsilon refl (power_of i x b) n;
 }
   where
-    power : (i : Intersection) → Bounded i x → x.epsilon ≡ 1 → (p : ℕ) × (x.power ≡ pos p)
-    power Empty b one = let z : ◌≡◌ {A = ℕ} 0 1 = sym (ap (λ t. t.0) b) ∙ one in absurd (omega arith)
-    power (Space s) b one = let p = b one in (p.0, p.1)
-
     go : (a : ℕ) → x.epsilon ≡ a → (x.epsilon ≡ 1 → (p : ℕ) × (x.power ≡ pos p)) → total omegas i ≡ omegas.nil → x.epsilon ≡ 0
     go zero h p n = h
     go (suc a) h p n =
@@ -52,7 +54,7 @@ module _ {R : Type 0} {o : Ops R} (laws : RingLaws o) where
   value s c = value_at s.form (spread 48 s.space.pivots c)
 
   space-closed : (s : PhasedSpace) (a : ℕ) (p : ℤ) (m : ℕ) → (a ≡ 1 → (k : ℕ) × (p ≡ pos k)) → a < 2
-      → chosen omegas a p m ≡ total omegas (Space s) → chosen o a p m ≡ total o (Space s)
+      → chosen omegas a p m ≡ sum_over omegas s → chosen o a p m ≡ sum_over o s
   unfolding value
   space-closed s zero p m h l e = sym (transfer-nil laws (value s) (2 ^ ones s.space.pivots) (sym e))
   space-closed s (suc zero) p m h l e =
@@ -63,5 +65,7 @@ module _ {R : Type 0} {o : Ops R} (laws : RingLaws o) where
 
   pub closed : (i : Intersection) (x : Scalar) → Bounded i x → embedded omegas (triple_of x) ≡ total omegas i
       → embedded o (triple_of x) ≡ total o i
-  closed Empty x b e = ap (embedded o) b
-  closed (Space s) x b e = space-closed s x.epsilon x.power x.turn (λ one. let p = b one in (p.0, p.1)) x.digit e
+  closed i x =
+      by_space (λ i. Bounded i x → embedded omegas (triple_of x) ≡ total omegas i → embedded o (triple_of x) ≡ total o i)
+      (λ b e. ap (embedded o) b)
+      (λ s b e. space-closed s x.epsilon x.power x.turn (λ one. let p = b one in (p.0, p.1)) x.digit e) i

@@ -6,7 +6,7 @@ use Rattle.cyclotomic.specs.Scalars.{Triple, triple_of, unit}
 use Rattle.cyclotomic.specs.declared.scalar.Scalar.{Scalar}
 use Rattle.quadratic.specs.Sums.{Bounded}
 use Rattle.quadratic.specs.declared.intersection.Intersection.{Intersection}
-use Rattle.quadratic.specs.declared.intersection.Intersection.TheVariants.{Empty, Space}
+use Rattle.quadratic.proofs.Cases.{by_space}
 use Rattle.stabilizer.specs.Overlaps.{lowered}
 
 -- zero stays
@@ -27,13 +27,16 @@ term-lowered x k ne = go x.epsilon ne
 
 -- the power of an exponential sum that is not 0
 pub sum-power : (i : Intersection) (x : Scalar) → Bounded i x → (x.epsilon ≡ 0 → ⊥) → (p : ℕ) × (x.power ≡ pos p) × (p ≤ 96)
-sum-power Empty x b ne = absurd (ne (ap (λ t. t.0) b))
-sum-power (Space s) x b ne =
+sum-power i x =
+    by_space (λ i. Bounded i x → (x.epsilon ≡ 0 → ⊥) → (p : ℕ) × (x.power ≡ pos p) × (p ≤ 96))
+    (λ b ne. absurd (ne (ap (λ t. t.0) b)))
+    (λ s b ne.
     let one : x.epsilon ≡ 1 = let l = x.digit in omega arith in
     let p = b one in
     let l = ones-le 48 s.space.pivots s.space.within in
     let h : p.0 ≤ 96 = let m = p.3 in omega arith in
-    (p.0, p.1, h)
+    (p.0, p.1, h))
+    i
 
 -- the subtraction as the machine makes it
 pub subtracted : (x : ℤ) (p k : ℕ) → x ≡ pos p → p ≤ 96 → k ≤ 10000
