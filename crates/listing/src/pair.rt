@@ -31,7 +31,7 @@ pub fn compare(t: &StabilizerState, s: &StabilizerState) -> Result<Comparison, R
     ensures number { answer_of result ≡ sizes_number t.now s.now }
     ensures value { IfOk result (λ c. Compares c t.now s.now) }
 {
-    let mut both = Intersection::Empty;
+    let mut both = Intersection { space: None };
     let overlap = overlap_into(&mut both, t, s)?;
     Ok(Comparison {
         overlap,

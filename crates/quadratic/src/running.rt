@@ -39,9 +39,7 @@ impl<R: Ring> RunningSum<R> {
             → R.value self.new.value ≡ R.ops.plus (R.value self.old.value) (term_in R.ops x.now self.old.count) }
         ensures refused { 0 < answer_of result → self.new ≡ self.old }
     {
-        let Intersection::Space(s) = x else {
-            return Err(Refusal::Finished);
-        };
+        let s = x.space.as_ref().ok_or(Refusal::Finished)?;
         if self.count >= s.strings() {
             return Err(Refusal::Finished);
         }

@@ -22,10 +22,9 @@ pub fn intersect(
     if t.qubits() != s.qubits() {
         return Err(Refusal::Sizes);
     }
-    match s.body().meet(t.body()) {
-        Some(both) => *out = Intersection::Space(both),
-        None => *out = Intersection::Empty,
-    }
+    *out = Intersection {
+        space: s.body().meet(t.body()),
+    };
     Ok(())
 }
 
@@ -53,6 +52,6 @@ pub fn overlap(t: &StabilizerState, s: &StabilizerState) -> Result<Scalar, Refus
     ensures number { answer_of result ≡ sizes_number t.now s.now }
     ensures value { Overlapping result t.now s.now }
 {
-    let mut both = Intersection::Empty;
+    let mut both = Intersection { space: None };
     overlap_into(&mut both, t, s)
 }
