@@ -1,4 +1,4 @@
-ghost use Rattle.std.specs.Prelude.{◌≡◌, ℕ, ◌+◌, ◌*◌, ◌%◌, ◌^◌, ◌<◌, ◌≤◌, T, ℤ, pos, neg_ℤ, count_ones};
+ghost use Rattle.std.specs.Prelude.{◌≡◌, OnOk, OnErr, ℕ, ◌+◌, ◌*◌, ◌%◌, ◌^◌, ◌<◌, ◌≤◌, T, ℤ, pos, neg_ℤ, count_ones};
 ghost use Rattle.cyclotomic.specs.Refusals.{answer_of};
 ghost use Rattle.quadratic.specs.Fields.{row_of, linear_of, coupling_of};
 ghost use Rattle.stabilizer.specs.Overlaps.{depth as depth_of};
@@ -24,8 +24,8 @@ impl StabilizerState {
     // The state of n qubits with amplitude 1 at the string of zeros.
     pub fn open(&mut self, n: u64) -> Result<(), Refusal>
         ensures number { answer_of result ≡ open_number n }
-        ensures granted { answer_of result ≡ 0 → Opened self.new n }
-        ensures refused { 0 < answer_of result → self.new ≡ self.old }
+        ensures granted { OnOk result (Opened self.new n) }
+        ensures refused { OnErr result (self.new ≡ self.old) }
     {
         if n < 1 || n > 48 {
             return Err(Refusal::Qubits);
