@@ -161,9 +161,9 @@ fn write_common<W: fmt::Write>(
 ) -> fmt::Result
     ensures { WritesOnOk W.Write.write_str_gives f.old result (common_text both.now qubits) f.new }
 {
-    match both {
-        Intersection::Empty => f.write_str("empty"),
-        Intersection::Space(space) => {
+    match &both.space {
+        None => f.write_str("empty"),
+        Some(space) => {
             let dimension = space.dimension();
             let text = SpaceText { space, qubits };
             write!(f, "{dimension} {text}")

@@ -36,7 +36,7 @@ impl OfPair for Comparison {
 
     // The overlap of t and s, the columns of their intersection, and whether they are the same state.
     fn of_pair(t: &StabilizerState, s: &StabilizerState) -> Result<Comparison, Refusal> {
-        let mut both = Intersection::Empty;
+        let mut both = Intersection { space: None };
         let overlap = overlap_into(&mut both, t, s)?;
         Ok(Comparison {
             overlap,

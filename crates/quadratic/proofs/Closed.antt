@@ -9,41 +9,42 @@ use Rattle.cyclotomic.specs.declared.scalar.Scalar.{Scalar}
 use Rattle.cyclotomic.proofs.Exact.{scalar-kind}
 use Rattle.cyclotomic.proofs.Extend.{transfer, transfer-nil}
 use Rattle.cyclotomic.proofs.Scalars.{exact-not-nil}
+use Rattle.quadratic.proofs.Cases.{by_space}
 use Rattle.quadratic.specs.Numbering.{spread}
-use Rattle.quadratic.specs.Sums.{Bounded, Vanishing, total}
+use Rattle.quadratic.specs.Sums.{Bounded, Vanishing, sum_over, total}
 use Rattle.quadratic.specs.Value.{value_at}
 use Rattle.quadratic.specs.declared.intersection.Intersection.{Intersection}
-use Rattle.quadratic.specs.declared.intersection.Intersection.TheVariants.{Empty, Space}
 use Rattle.quadratic.specs.declared.phased.PhasedSpace.{PhasedSpace}
 
 not_negative : (p : ℕ) (z : ℤ) → z ≡ pos p → z <ℤ pos 0 → ⊥
 not_negative p z e l = omega (arith, ints)
 
+-- the power of a sum that is not 0 is a number
+power_of : (i : Intersection) (x : Scalar) → Bounded i x → (triple_of x).0 ≡ 1 → (p : ℕ) × ((triple_of x).1 ≡ pos p)
+power_of i x =
+    by_space (λ i. Bounded i x → (triple_of x).0 ≡ 1 → (p : ℕ) × ((triple_of x).1 ≡ pos p))
+    (λ b one. let z : ◌≡◌ {A = ℕ} 0 1 = sym (ap (λ t. t.0) b) ∙ one in absurd (omega arith))
+    (λ s b one. let p = b one in (p.0, p.1)) i
+
 -- the power of an exponential sum is not negative
 pub sum_fits : (i : Intersection) (x : Scalar) → Bounded i x → Negative (triple_of x) → ⊥
-sum_fits Empty x b n = not_negative 0 (triple_of x).1 (ap (λ t. t.1) b) n
-sum_fits (Space s) x b n = go (scalar-kind x)
+sum_fits i x b n = go (scalar-kind x)
   where
     go : Kind (triple_of x) → ⊥
     go (inl z) = not_negative 0 (triple_of x).1 (ap (λ t. t.1) z) n
-    go (inr h) = let p = b h.0 in not_negative p.0 (triple_of x).1 p.1 n
+    go (inr h) = let p = power_of i x b h.0 in not_negative p.0 (triple_of x).1 p.1 n
 
 -- an exponential sum is 0 exactly where the sum over all strings is
 pub vanishing : (i : Intersection) (x : Scalar) → Bounded i x → embedded omegas (triple_of x) ≡ total omegas i → Vanishing i x
 vanishing i x b e = record {
   vanishes = λ z. sym e ∙ ap (λ a. chosen omegas a (triple_of x).1 (triple_of x).2) z;
-  only = λ n. go (scalar-kind x) (power i b) n;
+  only = λ n. go (scalar-kind x) n;
 }
   where
-    power : (i : Intersection) → Bounded i x → (triple_of x).0 ≡ 1 → (p : ℕ) × ((triple_of x).1 ≡ pos p)
-    power Empty b one = let z : ◌≡◌ {A = ℕ} 0 1 = sym (ap (λ t. t.0) b) ∙ one in absurd (omega arith)
-    power (Space s) b one = let p = b one in (p.0, p.1)
-
-    go : Kind (triple_of x) → ((triple_of x).0 ≡ 1 → (p : ℕ) × ((triple_of x).1 ≡ pos p)) → total omegas i ≡ omegas.nil
-        → (triple_of x).0 ≡ 0
-    go (inl z) p n = ap (λ t. t.0) z
-    go (inr h) p n =
-        let k = p h.0 in
+    go : Kind (triple_of x) → total omegas i ≡ omegas.nil → (triple_of x).0 ≡ 0
+    go (inl z) n = ap (λ t. t.0) z
+    go (inr h) n =
+        let k = power_of i x b h.0 in
         let m = (triple_of x).2 in
         absurd (exact-not-nil k.0 m (sym (ap₂ (λ a z. chosen omegas a z m) h.0 k.1) ∙ e ∙ n))
 
@@ -53,7 +54,7 @@ module _ {R : Type 0} {o : Ops R} (laws : RingLaws o) where
   value s c = value_at s.form (spread 48 s.space.pivots c)
 
   space-closed : (s : PhasedSpace) (x : Triple) → Kind x → (x.0 ≡ 1 → (k : ℕ) × (x.1 ≡ pos k))
-      → embedded omegas x ≡ total omegas (Space s) → embedded o x ≡ total o (Space s)
+      → embedded omegas x ≡ sum_over omegas s → embedded o x ≡ sum_over o s
   unfolding value
   space-closed s x (inl z) h e =
       ap (embedded o) z
@@ -66,5 +67,7 @@ module _ {R : Type 0} {o : Ops R} (laws : RingLaws o) where
 
   pub closed : (i : Intersection) (x : Scalar) → Bounded i x → embedded omegas (triple_of x) ≡ total omegas i
       → embedded o (triple_of x) ≡ total o i
-  closed Empty x b e = ap (embedded o) b
-  closed (Space s) x b e = space-closed s (triple_of x) (scalar-kind x) (λ one. let p = b one in (p.0, p.1)) e
+  closed i x =
+      by_space (λ i. Bounded i x → embedded omegas (triple_of x) ≡ total omegas i → embedded o (triple_of x) ≡ total o i)
+      (λ b e. ap (embedded o) b)
+      (λ s b e. space-closed s (triple_of x) (scalar-kind x) (λ one. let p = b one in (p.0, p.1)) e) i

@@ -12,7 +12,7 @@ use Rattle.cyclotomic.specs.Sum.{sum_to}
 use Rattle.cyclotomic.specs.CommFacts
 use Rattle.cyclotomic.specs.declared.scalar.Scalar.{Scalar}
 use Rattle.cyclotomic.proofs.Exact.{bar, bar-nil, Floor, scaled-nought, scaled-zero, scaled-one, scaled-product, scaled-nil}
-use Rattle.cyclotomic.proofs.Exact.{scaled-same, scalar-kind, kind-turn}
+use Rattle.cyclotomic.proofs.Exact.{scalar-kind, kind-turn}
 use Rattle.cyclotomic.proofs.Ints.{omega-laws}
 use Rattle.cyclotomic.proofs.RingFacts
 use Rattle.cyclotomic.proofs.Sums
@@ -21,7 +21,7 @@ use Rattle.quadratic.specs.Strings.{Member, Under}
 use Rattle.quadratic.specs.Sums.{total, Bounded, term_of}
 use Rattle.quadratic.specs.Value.{value_at}
 use Rattle.quadratic.specs.declared.intersection.Intersection.{Intersection}
-use Rattle.quadratic.specs.declared.intersection.Intersection.TheVariants.{Empty, Space}
+use Rattle.quadratic.proofs.Cases.{by_space, of_space}
 use Rattle.quadratic.specs.declared.phased.PhasedSpace.{PhasedSpace}
 use Rattle.quadratic.proofs.Enumerate.{sum-strings}
 use Rattle.quadratic.proofs.Phases.{phase-in}
@@ -78,7 +78,7 @@ module _ (t s : StabilizerState) where
   less_both (Some m) None v e = let z : ◌≡◌ {A = ℕ} 0 1 = cc in absurd (omega arith)
   less_both None b v e = let z : ◌≡◌ {A = ℕ} 0 1 = cc in absurd (omega arith)
 
-  module _ (m : PhasedSpace) (shared : Intersects (Space m) t s) where
+  module _ (m : PhasedSpace) (shared : Intersects (of_space m) t s) where
     -- a string of the intersection is a string of both
     in_both : (y : ℕ) → Member m.space y → Member s.body.space y × Member t.body.space y
     in_both y i =
@@ -96,8 +96,10 @@ module _ (t s : StabilizerState) where
 
   total-is : (both : Intersection) → Intersects both t s → sum_to omegas (λ y. term_of omegas (phase_inside both y)) (2 ^ s.qubits)
       ≡ total omegas both
-  total-is Empty shared = Sums.sum-nil omega-laws.comm (λ y. nil) (2 ^ s.qubits) (λ y l. refl)
-  total-is (Space m) shared = sym (sum-strings omega-laws.comm m s.qubits (under m shared))
+  total-is =
+      by_space (λ both. Intersects both t s → sum_to omegas (λ y. term_of omegas (phase_inside both y)) (2 ^ s.qubits) ≡ total omegas both)
+      (λ shared. Sums.sum-nil omega-laws.comm (λ y. nil) (2 ^ s.qubits) (λ y l. refl))
+      (λ m shared. sym (sum-strings omega-laws.comm m s.qubits (under m shared)))
 
   -- the inner product is a power of √2 times the exponential sum
   pub inner-is : (both : Intersection) → t.qubits ≡ s.qubits → Intersects both t s
@@ -127,8 +129,11 @@ module _ (t s : StabilizerState) where
   -- an exponential sum that is not 0 has a power between those of the states
   sum-range : (both : Intersection) (sum : Scalar) → Intersects both t s → Roomy both t s → Bounded both sum → (triple_of sum).0 ≡ 1
       → (p : ℕ) × ((triple_of sum).1 ≡ pos p) × (p ≤ depth t + depth s) × (depth t + depth s ≤ p + 8240)
-  sum-range Empty sum shared roomy b one = let z = ap (λ x. x.0) b in absurd (omega (arith, z, one))
-  sum-range (Space m) sum shared roomy b one =
+  sum-range both sum =
+      by_space (λ both. Intersects both t s → Roomy both t s → Bounded both sum → (triple_of sum).0 ≡ 1
+      → (p : ℕ) × ((triple_of sum).1 ≡ pos p) × (p ≤ depth t + depth s) × (depth t + depth s ≤ p + 8240))
+      (λ shared roomy b one. let z = ap (λ x. x.0) b in absurd (omega (arith, z, one)))
+      (λ m shared roomy b one.
       let (p, e, least, most) = b one in
       let k = below-s t s m shared in
       let l = below-t t s m shared in (
@@ -136,7 +141,8 @@ module _ (t s : StabilizerState) where
         e,
         omega (arith, most, k, l),
         omega (arith, least, roomy, t.light, s.light, s.few),
-      )
+      ))
+      both
 
   module _ (both : Intersection) (q : t.qubits ≡ s.qubits) (shared : Intersects both t s) (sum : Scalar)
       (value : embedded omegas (triple_of sum) ≡ total omegas both) where

@@ -7,7 +7,7 @@ use Rattle.cyclotomic.specs.declared.scalar.Scalar.{Scalar}
 use Rattle.cyclotomic.proofs.Exact.{scalar-kind}
 use Rattle.quadratic.specs.Sums.{Bounded}
 use Rattle.quadratic.specs.declared.intersection.Intersection.{Intersection}
-use Rattle.quadratic.specs.declared.intersection.Intersection.TheVariants.{Empty, Space}
+use Rattle.quadratic.proofs.Cases.{by_space}
 use Rattle.stabilizer.specs.Overlaps.{lowered, lowered_by}
 
 -- zero stays
@@ -30,16 +30,21 @@ term-lowered x k ne = go (triple_of x) (scalar-kind x) ne
 -- the power of an exponential sum that is not 0
 pub sum-power : (i : Intersection) (x : Scalar) → Bounded i x → ((triple_of x).0 ≡ 0 → ⊥)
     → (p : ℕ) × ((triple_of x).1 ≡ pos p) × (p ≤ 96)
-sum-power Empty x b ne = absurd (ne (ap (λ t. t.0) b))
-sum-power (Space s) x b ne = go (scalar-kind x)
+sum-power i x b ne = go (scalar-kind x)
   where
+    few : (i : Intersection) → Bounded i x → (triple_of x).0 ≡ 1 → (p : ℕ) × ((triple_of x).1 ≡ pos p) × (p ≤ 96)
+    few =
+        by_space (λ i. Bounded i x → (triple_of x).0 ≡ 1 → (p : ℕ) × ((triple_of x).1 ≡ pos p) × (p ≤ 96))
+        (λ b one. absurd (ne (ap (λ t. t.0) b)))
+        (λ s b one.
+        let p = b one in
+        let l = ones-le 48 s.space.pivots s.space.within in
+        let h : p.0 ≤ 96 = let m = p.3 in omega arith in
+        (p.0, p.1, h))
+
     go : Kind (triple_of x) → (p : ℕ) × ((triple_of x).1 ≡ pos p) × (p ≤ 96)
     go (inl z) = absurd (ne (ap (λ t. t.0) z))
-    go (inr h) =
-        let p = b h.0 in
-        let l = ones-le 48 s.space.pivots s.space.within in
-        let few : p.0 ≤ 96 = let m = p.3 in omega arith in
-        (p.0, p.1, few)
+    go (inr h) = few i b h.0
 
 -- the subtraction as the machine makes it
 pub subtracted : (x : ℤ) (p k : ℕ) → x ≡ pos p → p ≤ 96 → k ≤ 10000

@@ -1,4 +1,4 @@
-use Rattle.std.proofs.Common.{◌≡◌, ◌+◌, ◌≤◌, pos, ◌+ℤ◌, neg_ℤ, sym, refl, ◌∙◌, ap₂, arith}
+use Rattle.std.proofs.Common.{◌≡◌, ◌+◌, ◌≤◌, pos, ◌+ℤ◌, neg_ℤ, sym, ◌∙◌, ap₂, arith}
 use Rattle.cyclotomic.specs.Scalars.{triple_of, unit}
 use Rattle.stabilizer.specs.Overlaps.{depth}
 use Rattle.stabilizer.proofs.Inner.{overlaps}
@@ -14,10 +14,10 @@ returns-then-epsilon-eq0 c =
     let e = zero-lowered x (depth t + depth s) (sym c.epsilon.ensures ∙ c.if-epsilon-eq0.true) in
     record {
       number = i.number;
-      value = overlaps t s c.intersect.new.out x x i.number (i.granted refl) (i.roomy refl)
+      value = overlaps t s c.intersect.new.out x x i.number i.granted i.roomy
           c.exponential_sum-sum.ensures.bounds c.exponential_sum-sum.ensures.exact e;
       granted = i.granted;
-      refused = λ l. absurd (omega (arith, l));
+      refused = tt;
     }
 
 pub returns : goal.returns
@@ -34,9 +34,9 @@ returns c =
     ∙ ap₂ (λ x k. x +ℤ neg_ℤ (pos k)) c.power.ensures (ap₂ ◌+◌ c.depth.ensures.value c.depth-2.ensures.value) in
     record {
       number = i.number;
-      value = overlaps t s c.intersect.new.out x c.term.result i.number (i.granted refl) (i.roomy refl)
+      value = overlaps t s c.intersect.new.out x c.term.result i.number i.granted i.roomy
           c.exponential_sum-sum.ensures.bounds c.exponential_sum-sum.ensures.exact
           (c.term.ensures ∙ ap₂ unit power c.turn.ensures ∙ term-lowered x k ne);
       granted = i.granted;
-      refused = λ l. absurd (omega (arith, l));
+      refused = tt;
     }
