@@ -5,15 +5,15 @@ use Rattle.archive.proofs.build.build.Goals as goal
 
 pub bits_at-n-requires : goal.bits_at-n-requires
 bits_at-n-requires c = let good = sound c.args.bytes.now c.args.start c.requires.1 in
-    (omega (arith, good.long), (omega arith, omega arith))
+    record { there = omega (arith, good.long); narrow = omega arith; near = omega arith }
 
 pub bits_at-k-requires : goal.bits_at-k-requires
 bits_at-k-requires c = let good = sound c.args.bytes.now c.args.start c.requires.1 in
-    (omega (arith, good.long), (omega arith, omega arith))
+    record { there = omega (arith, good.long); narrow = omega arith; near = omega arith }
 
 pub bits_at-loss-requires : goal.bits_at-loss-requires
 bits_at-loss-requires c = let good = sound c.args.bytes.now c.args.start c.requires.1 in
-    (omega (arith, good.long), (omega arith, omega arith))
+    record { there = omega (arith, good.long); narrow = omega arith; near = omega arith }
 
 pub build_body-body-requires : goal.build_body-body-requires
 build_body-body-requires c = (c.requires.0, sound-at _ _ _ _ c.bits_at-n.ensures c.bits_at-k.ensures c.requires.1)

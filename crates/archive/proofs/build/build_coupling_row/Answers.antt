@@ -31,7 +31,7 @@ bits_at-requires c =
     let i = c.loop-c.c in
     let h = couplings-there _ _ _ _ c.requires.sound a i (omega arith) c.loop-c-test.true in
     let e = shifted c.args.start c.args.n c.args.k a i _ c.coupling_place-first.ensures (omega arith) in
-    (omega (arith, e, h.0), (omega arith, omega (arith, e, h.1, c.requires.near)))
+    record { there = omega (arith, e, h.0); narrow = omega arith; near = omega (arith, e, h.1, c.requires.near) }
 
 pub add_coupling-requires : goal.add_coupling-requires
 add_coupling-requires c =

@@ -29,7 +29,7 @@ pub bits_at-row-requires : goal.bits_at-row-requires
 bits_at-row-requires c =
     let good = c.requires.sound in
     let h = rows-there _ _ _ _ good c.loop-a.a c.loop-a-test.true in
-    (h.0, (omega (arith, good.few), omega (arith, h.1)))
+    record { there = h.0; narrow = omega (arith, good.few); near = omega (arith, h.1) }
 
 pub unreachable-requires : goal.unreachable-requires
 unreachable-requires c =
