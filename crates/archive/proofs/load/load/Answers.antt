@@ -38,11 +38,11 @@ returns-in_err-end c =
 
 pub build-requires : goal.build-requires
 build-requires c =
-    let h = c.in_ok-count.ensures in (
-      omega (arith, c.loop-i.invariant.near, h.few),
-      ap (state_fault c.args.archive.now) c.loop-i.invariant.place
-          ∙ state-good _ _ c.in_ok-end.ensures.verdict,
-    )
+    let h = c.in_ok-count.ensures in
+    record {
+      near = omega (arith, c.loop-i.invariant.near, h.few);
+      sound = ap (state_fault c.args.archive.now) c.loop-i.invariant.place ∙ state-good _ _ c.in_ok-end.ensures.verdict;
+    }
 
 pub loop-i-preserved : goal.loop-i-preserved
 loop-i-preserved c =
