@@ -1,5 +1,5 @@
 -- The computed first fault is the first, and there is no other.
-use Rattle.std.proofs.Common.{◌≡◌, ℕ, List, [], ◌∷◌, Some, None, Ok, Err, Option, Result, sym, refl, ap, arith, MatchResult}
+use Rattle.std.proofs.Common.{◌≡◌, ℕ, List, [], ◌∷◌, Some, None, Option, sym, refl, ap, arith}
 use Rattle.archive.specs.First.{Faultless, First, first}
 
 pub none-some : {F : Type 0} (f : F) → None ≡ Some f → ⊥

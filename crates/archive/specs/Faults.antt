@@ -1,5 +1,5 @@
 -- The numbers of a fault: each case of the three layers with what it reports.
-use Rattle.std.specs.Prelude.{ℕ}
+use Rattle.std.specs.Prelude.{ℕ, List, ◌++◌, codes, decimal}
 use Rattle.archive.specs.declared.fault.Field.{Field}
 use Rattle.archive.specs.declared.fault.Field.TheVariants.{Count, Qubits, Dimension, Weight, Phase, Row}
 use Rattle.archive.specs.declared.fault.Field.TheVariants.{Shift, Linear, Coupling, Fill, Rest}
@@ -10,6 +10,7 @@ use Rattle.archive.specs.declared.fault.StateFault.{StateFault}
 use Rattle.archive.specs.declared.fault.StateFault.TheVariants.{Bits, Broken}
 use Rattle.archive.specs.declared.fault.ArchiveFault.{ArchiveFault}
 use Rattle.archive.specs.declared.fault.ArchiveFault.TheVariants.{State, Short, Overfull, LeftOver}
+use Rattle.archive.specs.declared.fault.Report.{Report}
 
 abbrev pub field_number : Field → ℕ
 field_number Count = 0
@@ -33,13 +34,6 @@ rule_number ZeroFill = 6
 rule_number NothingLeft = 8
 
 -- what a fault reports
-pub record Report : Type 0 where
-  pub layer : ℕ
-  pub number : ℕ
-  pub sheet : ℕ
-  pub field : ℕ
-  pub place : ℕ
-
 abbrev pub bits_report : BitsFault → Report
 bits_report f = record { layer = 1; number = 1; sheet = 0; field = field_number f.field; place = f.place }
 
@@ -63,3 +57,12 @@ numbered i (State j f) = State i f
 numbered i (Short f) = Short f
 numbered i Overfull = Overfull
 numbered i (LeftOver p) = LeftOver p
+
+-- fault layer number sheet field place
+abbrev pub fault_text : Report → List ℕ
+fault_text r =
+    codes "fault "
+    ++ (decimal r.layer
+    ++ (codes " "
+    ++ (decimal r.number ++
+    (codes " " ++ (decimal r.sheet ++ (codes " " ++ (decimal r.field ++ (codes " " ++ decimal r.place))))))))

@@ -1,12 +1,19 @@
 // What can be wrong with the bytes of a state or of an archive, in three layers.
-ghost use Rattle.std.specs.Prelude.{◌≡◌};
+ghost use Rattle.std.specs.Prelude.{◌≡◌, Some};
 ghost use Rattle.archive.specs.declared.fault.StateFault.TheVariants.{Bits};
 ghost use Rattle.archive.specs.declared.fault.ArchiveFault.TheVariants.{State, Short};
-ghost use Rattle.archive.specs.Faults.{field_number, rule_number, numbered, bits_report, state_report, archive_report};
+ghost use Rattle.archive.specs.Faults.{field_number, rule_number, numbered, bits_report, state_report, archive_report, fault_text};
 
-// The number of the fault that the bytes end inside a field, and the layers.
+use std::fmt;
+
+// The numbers of the faults that break no rule of a state: the bytes end inside a field, a count over 100, bytes left over.
 const CUT_SHORT: u64 = 1;
 
+const OVERFULL: u64 = 7;
+
+const LEFT_OVER: u64 = 8;
+
+// The layers.
 const BITS_LAYER: u64 = 1;
 
 const STATE_LAYER: u64 = 2;
@@ -16,62 +23,43 @@ const ARCHIVE_LAYER: u64 = 3;
 // A field of the bytes. `Rest` is what stands after the last.
 #[derive(Clone, Copy, Debug, PartialEq, Eq)]
 pub enum Field {
-    Count,
-    Qubits,
-    Dimension,
-    Weight,
-    Phase,
-    Row,
-    Shift,
-    Linear,
-    Coupling,
-    Fill,
-    Rest,
+    Count = 0,
+    Qubits = 1,
+    Dimension = 2,
+    Weight = 3,
+    Phase = 4,
+    Row = 5,
+    Shift = 6,
+    Linear = 7,
+    Coupling = 8,
+    Fill = 9,
+    Rest = 10,
 }
 
 impl Field {
     pub fn number(self) -> u64
         ensures { result ≡ field_number self }
     {
-        match self {
-            Field::Count => 0,
-            Field::Qubits => 1,
-            Field::Dimension => 2,
-            Field::Weight => 3,
-            Field::Phase => 4,
-            Field::Row => 5,
-            Field::Shift => 6,
-            Field::Linear => 7,
-            Field::Coupling => 8,
-            Field::Fill => 9,
-            Field::Rest => 10,
-        }
+        self as u64
     }
 }
 
 // A rule that the fields of a state keep.
 #[derive(Clone, Copy, Debug, PartialEq, Eq)]
 pub enum Rule {
-    QubitRange,
-    DimensionRange,
-    WeightRange,
-    EchelonForm,
-    ZeroFill,
-    NothingLeft,
+    QubitRange = 2,
+    DimensionRange = 3,
+    WeightRange = 4,
+    EchelonForm = 5,
+    ZeroFill = 6,
+    NothingLeft = 8,
 }
 
 impl Rule {
     pub fn number(self) -> u64
         ensures { result ≡ rule_number self }
     {
-        match self {
-            Rule::QubitRange => 2,
-            Rule::DimensionRange => 3,
-            Rule::WeightRange => 4,
-            Rule::EchelonForm => 5,
-            Rule::ZeroFill => 6,
-            Rule::NothingLeft => 8,
-        }
+        self as u64
     }
 }
 
@@ -86,25 +74,25 @@ impl BitsFault {
     pub fn number(self) -> u64
         ensures { result ≡ (bits_report self).number }
     {
-        CUT_SHORT
+        Report::from(self).number
     }
 
     pub fn layer(self) -> u64
         ensures { result ≡ (bits_report self).layer }
     {
-        BITS_LAYER
+        Report::from(self).layer
     }
 
     pub fn field(self) -> u64
         ensures { result ≡ (bits_report self).field }
     {
-        self.field.number()
+        Report::from(self).field
     }
 
     pub fn place(self) -> usize
         ensures { result ≡ (bits_report self).place }
     {
-        self.place
+        Report::from(self).place
     }
 }
 
@@ -131,53 +119,25 @@ impl StateFault {
     pub fn number(self) -> u64
         ensures { result ≡ (state_report self).number }
     {
-        match self {
-            StateFault::Bits(fault) => fault.number(),
-            StateFault::Broken {
-                rule,
-                field: _,
-                place: _,
-            } => rule.number(),
-        }
+        Report::from(self).number
     }
 
     pub fn layer(self) -> u64
         ensures { result ≡ (state_report self).layer }
     {
-        match self {
-            StateFault::Bits(fault) => fault.layer(),
-            StateFault::Broken {
-                rule: _,
-                field: _,
-                place: _,
-            } => STATE_LAYER,
-        }
+        Report::from(self).layer
     }
 
     pub fn field(self) -> u64
         ensures { result ≡ (state_report self).field }
     {
-        match self {
-            StateFault::Bits(fault) => fault.field(),
-            StateFault::Broken {
-                rule: _,
-                field,
-                place: _,
-            } => field.number(),
-        }
+        Report::from(self).field
     }
 
     pub fn place(self) -> usize
         ensures { result ≡ (state_report self).place }
     {
-        match self {
-            StateFault::Bits(fault) => fault.place(),
-            StateFault::Broken {
-                rule: _,
-                field: _,
-                place,
-            } => place,
-        }
+        Report::from(self).place
     }
 }
 
@@ -213,65 +173,117 @@ impl ArchiveFault {
         ensures { result ≡ numbered sheet self }
     {
         match self {
-            ArchiveFault::State { sheet: _, fault } => ArchiveFault::State { sheet, fault },
-            ArchiveFault::Short(fault) => ArchiveFault::Short(fault),
-            ArchiveFault::Overfull => ArchiveFault::Overfull,
-            ArchiveFault::LeftOver { place } => ArchiveFault::LeftOver { place },
+            ArchiveFault::State { fault, .. } => ArchiveFault::State { sheet, fault },
+            other => other,
         }
     }
 
     pub fn number(self) -> u64
         ensures { result ≡ (archive_report self).number }
     {
-        match self {
-            ArchiveFault::State { sheet: _, fault } => fault.number(),
-            ArchiveFault::Short(fault) => fault.number(),
-            ArchiveFault::Overfull => 7,
-            ArchiveFault::LeftOver { place: _ } => 8,
-        }
+        Report::from(self).number
     }
 
     pub fn layer(self) -> u64
         ensures { result ≡ (archive_report self).layer }
     {
-        match self {
-            ArchiveFault::State { sheet: _, fault } => fault.layer(),
-            ArchiveFault::Short(fault) => fault.layer(),
-            ArchiveFault::Overfull => ARCHIVE_LAYER,
-            ArchiveFault::LeftOver { place: _ } => ARCHIVE_LAYER,
-        }
+        Report::from(self).layer
     }
 
     pub fn sheet(self) -> u64
         ensures { result ≡ (archive_report self).sheet }
     {
-        match self {
-            ArchiveFault::State { sheet, fault: _ } => sheet,
-            ArchiveFault::Short(_) => 0,
-            ArchiveFault::Overfull => 0,
-            ArchiveFault::LeftOver { place: _ } => 0,
-        }
+        Report::from(self).sheet
     }
 
     pub fn field(self) -> u64
         ensures { result ≡ (archive_report self).field }
     {
-        match self {
-            ArchiveFault::State { sheet: _, fault } => fault.field(),
-            ArchiveFault::Short(fault) => fault.field(),
-            ArchiveFault::Overfull => Field::Count.number(),
-            ArchiveFault::LeftOver { place: _ } => Field::Rest.number(),
-        }
+        Report::from(self).field
     }
 
     pub fn place(self) -> usize
         ensures { result ≡ (archive_report self).place }
     {
-        match self {
-            ArchiveFault::State { sheet: _, fault } => fault.place(),
-            ArchiveFault::Short(fault) => fault.place(),
-            ArchiveFault::Overfull => 0,
-            ArchiveFault::LeftOver { place } => place,
+        Report::from(self).place
+    }
+}
+
+// What a fault reports: the layer, the number of the fault, that of the state (0 for none), that of the field, and the place.
+#[derive(Clone, Copy, Debug, PartialEq, Eq)]
+pub struct Report {
+    pub layer: u64,
+    pub number: u64,
+    pub sheet: u64,
+    pub field: u64,
+    pub place: usize,
+}
+
+impl Report {
+    // A report that names no state of an archive.
+    fn new(layer: u64, number: u64, field: Field, place: usize) -> Report
+        ensures { result ≡ record { layer = layer; number = number; sheet = 0; field = field_number field; place = place } }
+    {
+        Report {
+            layer,
+            number,
+            sheet: 0,
+            field: field.number(),
+            place,
         }
+    }
+}
+
+impl From<BitsFault> for Report {
+    ghost from_gives = { λ f r. r ≡ bits_report f };
+
+    fn from(fault: BitsFault) -> Report {
+        Report::new(BITS_LAYER, CUT_SHORT, fault.field, fault.place)
+    }
+}
+
+impl From<StateFault> for Report {
+    ghost from_gives = { λ f r. r ≡ state_report f };
+
+    fn from(fault: StateFault) -> Report {
+        match fault {
+            StateFault::Bits(fault) => Report::from(fault),
+            StateFault::Broken { rule, field, place } => {
+                Report::new(STATE_LAYER, rule.number(), field, place)
+            }
+        }
+    }
+}
+
+impl From<ArchiveFault> for Report {
+    ghost from_gives = { λ f r. r ≡ archive_report f };
+
+    fn from(fault: ArchiveFault) -> Report {
+        match fault {
+            ArchiveFault::State { sheet, fault } => Report {
+                sheet,
+                ..Report::from(fault)
+            },
+            ArchiveFault::Short(fault) => Report::from(fault),
+            ArchiveFault::Overfull => Report::new(ARCHIVE_LAYER, OVERFULL, Field::Count, 0),
+            ArchiveFault::LeftOver { place } => {
+                Report::new(ARCHIVE_LAYER, LEFT_OVER, Field::Rest, place)
+            }
+        }
+    }
+}
+
+impl fmt::Display for Report {
+    ghost output = { λ r. Some (fault_text r) };
+
+    fn fmt<W: fmt::Write>(&self, f: &mut fmt::Formatter<W>) -> fmt::Result {
+        let Report {
+            layer,
+            number,
+            sheet,
+            field,
+            place,
+        } = *self;
+        write!(f, "fault {layer} {number} {sheet} {field} {place}")
     }
 }

@@ -1,8 +1,10 @@
 -- What an answer says of what a call of a library answered.
 use Rattle.std.specs.Prelude.{◌≡◌, Ok, Err, Result}
-use Rattle.archive.specs.Faults.{Report, archive_report}
+use Rattle.archive.specs.Faults.{archive_report}
 use Rattle.archive.specs.declared.container.Denial.{Denial}
 use Rattle.archive.specs.declared.container.Denial.TheVariants.{Fault as OfArchive, Refused as OfCall}
+use Rattle.archive.specs.declared.fault.ArchiveFault.{ArchiveFault}
+use Rattle.archive.specs.declared.fault.Report.{Report}
 use Rattle.circuit.specs.declared.division.SplitValue.{SplitValue}
 use Rattle.circuit.specs.declared.division.SplitValue.TheVariants.{Value as Counts, Aside as Apart}
 use Rattle.cyclotomic.specs.Modular.{Below, Quad, seventeen, quads}
@@ -40,10 +42,9 @@ split_answer (Err e) = Refused e
 
 -- the answer for a fault, and for what denies a state of an archive
 abbrev pub fault_answer : Report → Answer
-fault_answer r =
-    Fault (record { layer = r.layer; number = r.number; sheet = r.sheet; field = r.field; place = r.place })
+fault_answer r = Fault r
 
-abbrev pub denial_answer : Denial → Answer
+abbrev pub denial_answer : Denial ArchiveFault → Answer
 denial_answer (OfArchive f) = fault_answer (archive_report f)
 denial_answer (OfCall e) = Refused e
 

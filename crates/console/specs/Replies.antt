@@ -2,13 +2,14 @@
 use Rattle.std.specs.Prelude.{ℕ, ℤ, ◌/◌, ◌%◌, List, ◌++◌, codes, decimal, min}
 use Rattle.std.specs.Option.{option_map_or}
 use Rattle.std.specs.Fmt.{signed_decimal}
+use Rattle.archive.specs.Faults.{fault_text}
 use Rattle.cyclotomic.specs.Columns.{hex_at, word_at}
 use Rattle.cyclotomic.specs.Refusals.{number_of}
 use Rattle.cyclotomic.specs.Scalars.{triple_of}
 use Rattle.cyclotomic.specs.declared.refusal.Refusal.{Refusal}
 use Rattle.listing.specs.Digits.{glyphs, hex_text}
 use Rattle.listing.specs.Fields.{dimension_of, fields_text, space_text}
-use Rattle.listing.specs.Texts.{fault_text, mark_text, triple_text}
+use Rattle.listing.specs.Texts.{mark_text, triple_text}
 use Rattle.quadratic.specs.declared.intersection.Intersection.{Intersection}
 use Rattle.console.specs.declared.answer.Answer.{Answer}
 use Rattle.console.specs.declared.answer.Answer.TheVariants.{Help, Done, Refused, Fault, Unreadable, Bytes, Length, Number, Fields}
@@ -71,7 +72,7 @@ abbrev pub reply_text : Answer → List ℕ → List ℕ
 reply_text Help b = help_text
 reply_text Done b = codes "ok"
 reply_text (Refused e) b = refusal_text e
-reply_text (Fault line) b = fault_text line
+reply_text (Fault report) b = fault_text report
 reply_text (Unreadable p) b = codes "? " ++ problem_text p
 reply_text Bytes b = hex_text b
 reply_text (Length n) b = counted_text n b

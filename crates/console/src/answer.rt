@@ -7,11 +7,11 @@ ghost use Rattle.listing.specs.Texts.{triple_text};
 ghost use Rattle.console.specs.Replies.{common_text, refusal_text, reply_text, value_text};
 
 use crate::problem::Problem;
+use archive::fault::Report;
 use cyclotomic::mod17::Mod17;
 use cyclotomic::quads::Cyclotomic64;
 use cyclotomic::refusal::Refusal;
 use cyclotomic::scalar::Scalar;
-use listing::fault_line::FaultLine;
 use listing::fields::FieldsText;
 use listing::hex::HexBytes;
 use listing::space::SpaceText;
@@ -33,7 +33,7 @@ pub enum Answer {
     Help,
     Done,
     Refused(Refusal),
-    Fault(FaultLine),
+    Fault(Report),
     Unreadable(Problem),
     Bytes,
     Length(usize),
@@ -78,7 +78,7 @@ impl fmt::Display for Reply<'_> {
             Answer::Help => f.write_str(HELP),
             Answer::Done => f.write_str("ok"),
             Answer::Refused(refusal) => write_refusal(f, refusal),
-            Answer::Fault(line) => write!(f, "{line}"),
+            Answer::Fault(report) => write!(f, "{report}"),
             Answer::Unreadable(problem) => write!(f, "? {problem}"),
             Answer::Bytes => write_bytes(f, self.buffer),
             Answer::Length(length) => {

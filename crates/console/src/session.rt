@@ -9,6 +9,7 @@ ghost use Rattle.console.specs.Commands.{Opens, Gates, Projects, Reads, Takes, W
 use crate::answer::{Answer, RingValue};
 use crate::command::{Command, Name, Operands, RingName};
 use archive::container::Denial;
+use archive::fault::{ArchiveFault, Report};
 use archive::{codec, container};
 use circuit::division::{SplitValue, split};
 use cyclotomic::embedding::embed;
@@ -16,7 +17,6 @@ use cyclotomic::mod17::Mod17;
 use cyclotomic::quads::Cyclotomic64;
 use cyclotomic::refusal::Refusal;
 use cyclotomic::scalar::Scalar;
-use listing::fault_line::FaultLine;
 use quadratic::coordinates::exact_coordinates;
 use quadratic::intersection::Intersection;
 use quadratic::running::added;
@@ -164,7 +164,7 @@ fn read(state: &mut StabilizerState, bytes: &[u8]) -> Answer
 {
     match codec::read(state, bytes) {
         Ok(()) => Answer::Done,
-        Err(fault) => Answer::Fault(FaultLine::from(fault)),
+        Err(fault) => Answer::Fault(Report::from(fault)),
     }
 }
 
@@ -207,7 +207,7 @@ fn check(archive: &[u8]) -> Answer
 {
     match container::check(archive) {
         Ok(count) => Answer::Count(count),
-        Err(fault) => Answer::Fault(FaultLine::from(fault)),
+        Err(fault) => Answer::Fault(Report::from(fault)),
     }
 }
 
@@ -255,11 +255,11 @@ fn of_split(res: Result<SplitValue, Refusal>) -> Answer
     }
 }
 
-fn of_denial(denial: Denial) -> Answer
+fn of_denial(denial: Denial<ArchiveFault>) -> Answer
     ensures { result ≡ denial_answer denial }
 {
     match denial {
-        Denial::Fault(fault) => Answer::Fault(FaultLine::from(fault)),
+        Denial::Fault(fault) => Answer::Fault(Report::from(fault)),
         Denial::Refused(refusal) => Answer::Refused(refusal),
     }
 }

@@ -1,6 +1,5 @@
 -- The number that the entry answers, and the four bytes that it writes.
 use Rattle.std.specs.Prelude.{◌≡◌, ℕ, ◌+◌, ◌*◌, ◌/◌, ◌%◌, ◌^◌, ◌<◌, cond, List, [], ◌∷◌, Some, None, Option, ◌==◌, nat_lt, slice_index, unsigned_abs}
-use Rattle.cyclotomic.specs.Refusals.{number_of}
 use Rattle.cyclotomic.specs.declared.refusal.Refusal.TheVariants.{Sizes}
 use Rattle.cyclotomic.specs.Scalars.{Triple, triple_of}
 use Rattle.cyclotomic.specs.declared.scalar.Scalar.{Scalar}
@@ -10,19 +9,15 @@ use Rattle.archive.specs.Faults.{state_report}
 use Rattle.archive.specs.Held.{Holds}
 use Rattle.archive.specs.Layout.{size_at, alone_fault}
 use Rattle.archive.specs.declared.fault.StateFault.{StateFault}
-use Rattle.host.specs.declared.Denial.{Denial}
-use Rattle.host.specs.declared.Denial.TheVariants.{Fault, Refused}
-
-abbrev pub denial_number : Denial → ℕ
-denial_number (Fault f) = (state_report f).number
-denial_number (Refused e) = number_of e
+use Rattle.archive.specs.declared.container.Denial.{Denial}
+use Rattle.archive.specs.declared.container.Denial.TheVariants.{Fault, Refused}
 
 -- a fault, or else another denial; and the denial of a pair: the first's fault, the second's, different numbers of qubits, or none
-abbrev pub denied_or : Option StateFault → Option Denial → Option Denial
+abbrev pub denied_or : Option StateFault → Option (Denial StateFault) → Option (Denial StateFault)
 denied_or (Some f) d = Some (Fault f)
 denied_or None d = d
 
-abbrev pub pair_denial : List ℕ → List ℕ → Option Denial
+abbrev pub pair_denial : List ℕ → List ℕ → Option (Denial StateFault)
 pair_denial t s = denied_or (alone_fault t) (denied_or (alone_fault s) (cond (size_at t 0 == size_at s 0) None (Some (Refused Sizes))))
 
 -- the number of a fault, or else another

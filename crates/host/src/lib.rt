@@ -3,54 +3,20 @@
 
 ghost use Rattle.std.specs.Prelude.{◌≡◌, ℕ, ◌<◌, ◌≤◌, length, IfOk, Some, None, MatchResult, slice_index};
 ghost use Rattle.cyclotomic.specs.Scalars.{triple_of};
-ghost use Rattle.host.specs.declared.Denial.TheVariants.{Fault, Refused};
-ghost use Rattle.host.specs.Answers.{denial_number, pair_denial, pair_number, entry_number, word_of, bytes_of, Overlapped, Answered};
+ghost use Rattle.archive.specs.Denials.{denial_number};
+ghost use Rattle.archive.specs.First.{Blames};
+ghost use Rattle.host.specs.Answers.{pair_denial, pair_number, entry_number, word_of, bytes_of, Overlapped, Answered};
 
 use archive::codec::read;
+use archive::container::Denial;
 use archive::fault::StateFault;
-use cyclotomic::refusal::Refusal;
 use cyclotomic::scalar::Scalar;
 use stabilizer::state::StabilizerState;
 
-// Why there is no overlap.
-#[derive(Clone, Copy)]
-pub enum Denial {
-    Fault(StateFault),
-    Refused(Refusal),
-}
-
-impl From<StateFault> for Denial {
-    ghost from_gives = { λ f r. r ≡ Fault f };
-
-    fn from(fault: StateFault) -> Denial {
-        Denial::Fault(fault)
-    }
-}
-
-impl From<Refusal> for Denial {
-    ghost from_gives = { λ e r. r ≡ Refused e };
-
-    fn from(refusal: Refusal) -> Denial {
-        Denial::Refused(refusal)
-    }
-}
-
-impl Denial {
-    // The number that stands for it.
-    pub fn number(self) -> u64
-        ensures { result ≡ denial_number self }
-    {
-        match self {
-            Denial::Fault(fault) => fault.number(),
-            Denial::Refused(refusal) => refusal.number(),
-        }
-    }
-}
-
 // The overlap of the states that two runs of bytes hold.
-pub fn overlap_of(t: &[u8], s: &[u8]) -> Result<Scalar, Denial>
+pub fn overlap_of(t: &[u8], s: &[u8]) -> Result<Scalar, Denial<StateFault>>
     ensures number { MatchResult result (λ _. pair_number t.now s.now ≡ 0) (λ d. denial_number d ≡ pair_number t.now s.now) }
-    ensures denial { MatchResult result (λ _. pair_denial t.now s.now ≡ None) (λ d. pair_denial t.now s.now ≡ Some d) }
+    ensures denial { Blames result (pair_denial t.now s.now) }
     ensures value { IfOk result (Overlapped t.now s.now) }
 {
     let mut first = StabilizerState::new();
@@ -67,23 +33,7 @@ pub fn packed(x: Scalar) -> [u8; 4]
 {
     let size = x.power().unsigned_abs() % 16384;
     let word = ((x.epsilon() * 16384 + size) * 8 + x.turn()) * 16384;
-    [
-        (word >> 24) as u8,
-        ((word >> 16) % 256) as u8,
-        ((word >> 8) % 256) as u8,
-        (word % 256) as u8,
-    ]
-}
-
-// Writes four bytes at the start of a buffer.
-fn put(answer: &mut [u8], bytes: [u8; 4])
-    requires { 4 ≤ length answer.old }
-    ensures front { (k : ℕ) → k < 4 → slice_index answer.new k ≡ slice_index bytes k }
-    ensures rest { (k : ℕ) → 4 ≤ k → slice_index answer.new k ≡ slice_index answer.old k }
-{
-    for i in 0..4 {
-        answer[i] = bytes[i];
-    }
+    (word as u32).to_be_bytes()
 }
 
 // Writes the overlap of two states, given as bytes, into the first four bytes of the answer, and answers 0; or answers the number of
@@ -99,7 +49,7 @@ pub fn overlap(t: &[u8], s: &[u8], answer: &mut [u8]) -> u8
     }
     match overlap_of(t, s) {
         Ok(x) => {
-            put(answer, packed(x));
+            answer[..4].copy_from_slice(&packed(x));
             0
         }
         Err(denial) => denial.number() as u8,

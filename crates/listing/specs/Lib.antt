@@ -3,7 +3,6 @@ pub mod Fields
 pub mod Lines
 pub mod Listings
 pub mod Pairs
-pub mod Reports
 pub mod Sums
 pub mod Texts
 pub mod Written

@@ -1,7 +1,7 @@
 -- What is written of a whole archive.
 use Rattle.std.specs.Prelude.{◌≡◌, ℕ, List, ◌++◌, length, Some, None, Option, codes, decimal}
 use Rattle.archive.specs.Archives.{count_of, archive_fault}
-use Rattle.archive.specs.Faults.{archive_report}
+use Rattle.archive.specs.Faults.{archive_report, fault_text}
 use Rattle.archive.specs.Loads.{InTurn}
 use Rattle.archive.specs.declared.fault.ArchiveFault.{ArchiveFault}
 use Rattle.stabilizer.specs.Overlaps.{Overlaps}
@@ -10,7 +10,7 @@ use Rattle.listing.specs.Fields.{state_lines}
 use Rattle.listing.specs.Lines.{Compares}
 use Rattle.listing.specs.Pairs.{IsPair, Lines}
 use Rattle.listing.specs.Written.{ended}
-use Rattle.listing.specs.Texts.{comparison_text, report_text, scalar_text}
+use Rattle.listing.specs.Texts.{comparison_text, scalar_text}
 
 -- the number of states
 abbrev pub sheets_text : ℕ → List ℕ
@@ -18,7 +18,7 @@ sheets_text n = ended (codes "sheets " ++ decimal n)
 
 -- the line of a fault
 abbrev pub line_of_fault : ArchiveFault → List ℕ
-line_of_fault f = ended (report_text (archive_report f))
+line_of_fault f = ended (fault_text (archive_report f))
 
 -- the listing of states: how many there are, and a line for each pair
 pub record ListsStates (states : List StabilizerState) (text : List ℕ) : Type 0 where

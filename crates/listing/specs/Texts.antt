@@ -1,6 +1,5 @@
 -- The text of each part of a listing.
 use Rattle.std.specs.Prelude.{ℕ, ◌/◌, ◌%◌, Bool, true, false, List, ◌++◌, Some, None, Ok, Err, codes, decimal, Option, Result}
-use Rattle.archive.specs.Faults.{Report}
 use Rattle.cyclotomic.specs.Columns.{hex_at, word_at}
 use Rattle.cyclotomic.specs.Scalars.{triple_of}
 use Rattle.cyclotomic.specs.Texts.{refusal_text, triple_text}
@@ -8,10 +7,8 @@ use Rattle.cyclotomic.specs.declared.refusal.Refusal.{Refusal}
 use Rattle.cyclotomic.specs.declared.scalar.Scalar.{Scalar}
 use Rattle.listing.specs.declared.columns.Columns.{Columns}
 use Rattle.listing.specs.declared.comparison.Comparison.{Comparison}
-use Rattle.listing.specs.declared.fault_line.FaultLine.{FaultLine}
 use Rattle.listing.specs.declared.line.Line.{Line}
 use Rattle.listing.specs.Digits.{glyphs}
-use Rattle.listing.specs.Reports.{report_of}
 
 -- ε p m
 abbrev pub scalar_text : Scalar → List ℕ
@@ -40,15 +37,3 @@ outcome_text text (Err e) = refusal_text e
 -- i j, and what is said of the two: ε p m residue quad mark in a listing and ε p m in a description, or refused 23
 abbrev pub line_text : {A : Type 0} → (A → List ℕ) → Line A → List ℕ
 line_text text l = decimal l.i ++ (codes " " ++ (decimal l.j ++ (codes " " ++ outcome_text text l.outcome)))
-
--- fault layer number sheet field place
-abbrev pub report_text : Report → List ℕ
-report_text r =
-    codes "fault "
-    ++ (decimal r.layer
-    ++ (codes " "
-    ++ (decimal r.number ++
-    (codes " " ++ (decimal r.sheet ++ (codes " " ++ (decimal r.field ++ (codes " " ++ decimal r.place))))))))
-
-abbrev pub fault_text : FaultLine → List ℕ
-fault_text f = report_text (report_of f)

@@ -4,7 +4,6 @@
 pub mod columns;
 pub mod comparison;
 pub mod description;
-pub mod fault_line;
 pub mod fields;
 pub mod hex;
 pub mod line;

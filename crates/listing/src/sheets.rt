@@ -7,8 +7,8 @@ ghost use Rattle.listing.specs.Listings.{line_of_fault, ListsStates, Reports, sh
 ghost use Rattle.listing.specs.Written.{Writes};
 
 use crate::comparison::Comparison;
-use crate::fault_line::FaultLine;
 use crate::pairs::write_pairs;
+use archive::fault::Report;
 use archive::load::{LoadError, load};
 use stabilizer::state::StabilizerState;
 use std::alloc::Global;
@@ -74,8 +74,8 @@ pub(crate) fn write_load_error<O: Write>(out: &mut O, error: LoadError) -> io::R
 {
     match error {
         LoadError::Archive(fault) => {
-            let line = FaultLine::from(fault);
-            writeln!(out, "{line}")
+            let report = Report::from(fault);
+            writeln!(out, "{report}")
         }
         LoadError::Memory => Err(io::Error::from(ErrorKind::OutOfMemory)),
     }
