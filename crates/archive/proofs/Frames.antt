@@ -1,5 +1,6 @@
 -- Bits that a part of the writing leaves as they are.
-use Rattle.std.proofs.Common.{◌≡◌, ℕ, ◌+◌, ◌*◌, ◌<◌, ◌≤◌, List, length, get_or, set, sym, ◌∙◌, subst, mul-le-mul_right, add-mul, one-mul, arith, get_or-set_other, get_or-set_same, below_more}
+use Rattle.std.proofs.Common.{◌≡◌, ℕ, ◌+◌, ◌*◌, ◌<◌, ◌≤◌, List, sym, ◌∙◌, subst, mul-le-mul_right, add-mul, one-mul, arith, below_more}
+use Rattle.std.proofs.lemmas.Nat.{mul-le}
 use Rattle.archive.specs.Bits.{bit_at, bits_from, Framed}
 use Rattle.archive.proofs.Laws.{bits-same}
 
@@ -27,9 +28,19 @@ field-within p i j w h =
     let e = next_place p i w in
     let l : (i + 1) * w ≤ j * w = mul-le-mul_right w (omega arith) in omega arith
 
--- a table with one entry more
-pub table_more : (P : ℕ → ℕ → Type 0) (xs : List ℕ) (a v : ℕ) → a < length xs → ((j : ℕ) → j < a → P j (get_or xs j 0)) → P a v
-    → (j : ℕ) → j < a + 1 → P j (get_or (set xs a v) j 0)
-table_more P xs a v h f e =
-    below_more (λ j. P j (get_or (set xs a v) j 0)) a
-    (λ j l. subst (P j) (sym (get_or-set_other xs a j v 0 (omega arith))) (f j l)) (subst (P a) (sym (get_or-set_same xs a v 0 h)) e)
+-- one field of one width more, of which P says what stands there
+pub put_more : (P : ℕ → ℕ → Type 0) (b d : List ℕ) (p w j v : ℕ) → Framed b d (p + j * w) (p + j * w + w)
+    → bits_from d (p + j * w) w ≡ v → P j v
+    → ((i : ℕ) → i < j → P i (bits_from b (p + i * w) w)) → (i : ℕ) → i < j + 1 → P i (bits_from d (p + i * w) w)
+put_more P b d p w j v framed there here old =
+    below_more _ _
+    (λ i l. subst (P i) (sym (keep-before b d _ _ (p + i * w) w framed (field-within p i j w l))) (old i l))
+    (subst (P j) (sym there) here)
+
+pub framed_more : (b₀ b d : List ℕ) (p w j : ℕ) → Framed b₀ b p (p + j * w) → Framed b d (p + j * w) (p + j * w + w)
+    → Framed b₀ d p (p + (j + 1) * w)
+framed_more b₀ b d p w j old framed = rw (next_place p j w) (both b₀ b d p _ _ (omega arith) (omega arith) old framed)
+
+-- a field of k ≤ 48 lies before the end, near the front
+pub inside : (p j k w : ℕ) → j < k → k ≤ 48 → w ≤ 64 → (p + j * w + w ≤ p + k * w) × (j * w ≤ 3072)
+inside p j k w l h e = (field-within p j k w l, mul-le j w 48 64 (omega arith) e)

@@ -1,9 +1,11 @@
 -- One row more in the space.
-use Rattle.std.proofs.Common.{◌≡◌, ℕ, suc, ◌+◌, ◌*◌, ◌/◌, ◌%◌, ◌^◌, ◌<◌, ◌≤◌, List, length, set, Some, None, sym, ap, ◌∙◌, subst, ap₂, inl, inr, add-zero, one-mul, zero-mul, arith, length-set, get_or-set_other, get_or-set_same, pow_pos, below_more}
+use Rattle.std.proofs.Common.{◌≡◌, ℕ, suc, ◌+◌, ◌*◌, ◌/◌, ◌%◌, ◌^◌, ◌<◌, ◌≤◌, List, [], ◌∷◌, ◌++◌, get_or, Some, None, sym, ap, ◌∙◌, subst, ap₂, inl, inr, add-zero, one-mul, zero-mul, arith, length-append, pow_pos, below_more}
 use native.Mathlib.Nat.{zero-mod}
 use lib.Bits.{bit_xor, xor_zero_l, xor_zero_r, xor_shifted}
 use lib.Count.{ones, ones_cat}
 use lib.Pow.{pow-lt}
+use Rattle.std.proofs.Math.ListN.{get_or-append}
+use Rattle.std.proofs.Math.Seq.{get_or-append_seam}
 use Rattle.std.proofs.lemmas.Nat.{shr_split}
 use Rattle.std.proofs.lemmas.Bool.{cases_eq}
 use Rattle.quadratic.specs.Bits.{bit}
@@ -107,14 +109,13 @@ module _ (b : List ℕ) (p n k : ℕ) (good : Sound b p n k) (a : ℕ) (l : a < 
       shift = h.0.3 ∙ w.shift;
     }
 
-    pub listed_more : a < 48 → (leads : List ℕ) → Listed b p n a leads → Listed b p n (a + 1) (set leads a q)
-    listed_more m leads t =
-        let in_table : a < length leads = omega (arith, t.places) in
-        record {
-          places = length-set leads a q ∙ t.places;
-          listed = below_more _ _ (λ j i. get_or-set_other leads a j q 0 (omega arith) ∙ t.listed j i)
-              (get_or-set_same leads a q 0 in_table ∙ same-lead);
-        }
+    pub listed_more : (leads leads' : List ℕ) → leads' ≡ leads ++ q ∷ [] → Listed b p n a leads → Listed b p n (a + 1) leads'
+    listed_more leads leads' e t =
+        let last = subst (λ i. get_or (leads ++ q ∷ []) i 0 ≡ q) t.places (get_or-append_seam leads q [] 0) in
+        rw e (record {
+          places = length-append leads (q ∷ []) ∙ ap (λ i. i + 1) t.places;
+          listed = below_more _ _ (λ j i. get_or-append leads (q ∷ []) 0 j (omega (arith, t.places)) ∙ t.listed j i) (last ∙ same-lead);
+        })
 
 -- the leads of the rows are pivots
 pub on-pivots : (b : List ℕ) (p n k : ℕ) → Sound b p n k → (s : AffineSpace)

@@ -60,10 +60,11 @@ module _ (b : List ℕ) (i m p : ℕ) (at : p ≡ place_after b i) where
       ∙ ap (λ x. or_else x (first (states_verdicts b (i + 1) m)))
       (first-carried (i + 1) fields ∙ ap (carried (i + 1)) (ap (λ q. first (verdicts b q (parts_at b q))) (sym at) ∙ e))
 
-  pub state-fine : state_fault b p ≡ None → states_fault b i (suc m) ≡ states_fault b (i + 1) m
-  state-fine e = one_more None e
+  pub then : (o : Option ArchiveFault) → carried (i + 1) (state_fault b p) ≡ o
+      → states_fault b i (suc m) ≡ or_else o (states_fault b (i + 1) m)
+  then o e = one_more (state_fault b p) refl ∙ ap (λ t. or_else t (states_fault b (i + 1) m)) e
 
-  pub state-bad : (f : StateFault) → state_fault b p ≡ Some f → states_fault b i (suc m) ≡ Some (State (i + 1) f)
+  state-bad : (f : StateFault) → state_fault b p ≡ Some f → states_fault b i (suc m) ≡ Some (State (i + 1) f)
   state-bad f e = one_more (Some f) e
 
 -- a state without a fault, by itself

@@ -1,5 +1,5 @@
 -- The first fault of a list of verdicts.
-use Rattle.std.specs.Prelude.{◌≡◌, List, [], ◌∷◌, ◌++◌, Some, None, Option}
+use Rattle.std.specs.Prelude.{◌≡◌, List, [], ◌∷◌, ◌++◌, Some, None, Option, Result, MatchResult}
 
 -- no verdict names a fault
 abbrev pub Faultless : {F : Type 0} → List (Option F) → Type 0
@@ -21,3 +21,7 @@ or_else (Some f) later = Some f
 unfoldable pub first : {F : Type 0} → List (Option F) → Option F
 first [] = None
 first (x ∷ xs) = or_else x (first xs)
+
+-- a result is granted where nothing is wrong, and else it is an error and names what is wrong
+abbrev pub Blames : {T F : Type 0} → Result T F → Option F → Type 0
+Blames r wrong = MatchResult r (λ _. wrong ≡ None) (λ f. wrong ≡ Some f)

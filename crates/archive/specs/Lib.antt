@@ -6,6 +6,7 @@ pub mod Archives
 pub mod Denials
 pub mod Held
 pub mod Reading
+pub mod StateBits
 pub mod Coefficients
 pub mod Loads
 pub mod Writes

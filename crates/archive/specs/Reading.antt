@@ -16,9 +16,9 @@ pub record Raised (b : List ℕ) (p n a : ℕ) (s : PhasedSpace) : Type 0 where
   pub rows : (j : ℕ) → j < a → row s.space.rows (lead (row_at b p n j)) ≡ row_at b p n j
   pub shift : s.space.shift ≡ 0
 
--- a table of the leads of the first a rows
+-- the leads of the first a rows
 pub record Listed (b : List ℕ) (p n a : ℕ) (leads : List ℕ) : Type 0 where
-  pub places : length leads ≡ 48
+  pub places : length leads ≡ a
   pub listed : (j : ℕ) → j < a → slice_index leads j ≡ lead (row_at b p n j)
 
 -- the leads of all k rows are pivots

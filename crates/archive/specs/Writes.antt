@@ -43,9 +43,9 @@ pub record Telling (s : StabilizerState) (b : List ℕ) : Type 0 where
   pub sound : (t : StabilizerState) (d : List ℕ) → RunOf t d → b ≡ d → SameState s t
   pub complete : (t : StabilizerState) (d : List ℕ) → RunOf t d → SameState s t → b ≡ d
 
--- a table of the k set bits of a mask, the highest first
+-- the k set bits of a mask, the highest first
 pub record Falling (mask k : ℕ) (leads : List ℕ) : Type 0 where
-  pub places : length leads ≡ 48
+  pub places : length leads ≡ k
   pub on : (a : ℕ) → a < k → bit mask (slice_index leads a) ≡ 1
   pub order : (a c : ℕ) → a < c → c < k → slice_index leads c < slice_index leads a
   pub all : (q : ℕ) → bit mask q ≡ 1 → (a : ℕ) × (a < k) × (q ≡ slice_index leads a)

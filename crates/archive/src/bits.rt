@@ -6,7 +6,9 @@ use crate::fault::{BitsFault, Field};
 
 // The number in the bits from a place on, read a byte at a time.
 pub(crate) fn bits_at(bytes: &[u8], at: usize, width: usize) -> u64
-    requires { (at + width ≤ 8 * length bytes.now) × ((width ≤ 64) × (at ≤ 2 ^ 32)) }
+    requires there { at + width ≤ 8 * length bytes.now }
+    requires narrow { width ≤ 64 }
+    requires near { at ≤ 2 ^ 32 }
     ensures { result ≡ bits_from bytes.now at width }
 {
     let mut value: u64 = 0;
@@ -23,7 +25,8 @@ pub(crate) fn bits_at(bytes: &[u8], at: usize, width: usize) -> u64
 
 // Whether the bits of a field are all there.
 pub(crate) fn demand(bytes: &[u8], at: usize, width: usize, field: Field) -> Result<(), BitsFault>
-    requires { (width ≤ 64) × (at ≤ 2 ^ 32) }
+    requires narrow { width ≤ 64 }
+    requires near { at ≤ 2 ^ 32 }
     ensures { MatchResult result (λ _. at + width ≤ 8 * length bytes.now)
         (λ f. (8 * length bytes.now < at + width) × (f ≡ record { field = field; place = at })) }
 {
@@ -40,19 +43,19 @@ pub(crate) fn number_at(
     width: usize,
     field: Field,
 ) -> Result<u64, BitsFault>
-    requires { (width ≤ 64) × (at ≤ 2 ^ 32) }
+    requires narrow { width ≤ 64 }
+    requires near { at ≤ 2 ^ 32 }
     ensures { MatchResult result (λ v. (at + width ≤ 8 * length bytes.now) × (v ≡ bits_from bytes.now at width))
         (λ f. (8 * length bytes.now < at + width) × (f ≡ record { field = field; place = at })) }
 {
-    match demand(bytes, at, width, field) {
-        Ok(()) => Ok(bits_at(bytes, at, width)),
-        Err(fault) => Err(fault),
-    }
+    demand(bytes, at, width, field)?;
+    Ok(bits_at(bytes, at, width))
 }
 
 // Puts a bit in its place; every other bit stays.
 fn put_bit(bytes: &mut [u8], i: usize, bit: u8)
-    requires { (i < 8 * length bytes.old) × (bit < 2) }
+    requires inside { i < 8 * length bytes.old }
+    requires digit { bit < 2 }
     ensures there { bit_at bytes.new i ≡ bit }
     ensures others { (q : ℕ) → (q ≢ i) → bit_at bytes.new q ≡ bit_at bytes.old q }
 {
@@ -64,7 +67,10 @@ fn put_bit(bytes: &mut [u8], i: usize, bit: u8)
 
 // Puts a number into the bits from a place on; every other bit stays.
 pub(crate) fn put_bits(bytes: &mut [u8], at: usize, width: usize, value: u64)
-    requires { (at + width ≤ 8 * length bytes.old) × ((width ≤ 64) × ((at ≤ 2 ^ 32) × (value < 2 ^ width))) }
+    requires room { at + width ≤ 8 * length bytes.old }
+    requires narrow { width ≤ 64 }
+    requires near { at ≤ 2 ^ 32 }
+    requires fits { value < 2 ^ width }
     ensures there { bits_from bytes.new at width ≡ value }
     ensures framed { Framed bytes.old bytes.new at (at + width) }
 {

@@ -1,6 +1,6 @@
 // A state alone in a run of bytes: reading and writing.
-ghost use Rattle.std.specs.Prelude.{◌≡◌, ℕ, ◌*◌, ◌<◌, ◌≤◌, length, take, IfOk, Some, None, MatchOption, MatchResult, OnOk, slice_index};
-ghost use Rattle.archive.specs.First.{Faultless, First};
+ghost use Rattle.std.specs.Prelude.{◌≡◌, ℕ, ◌*◌, ◌<◌, ◌≤◌, length, take, IfOk, Some, None, MatchOption, MatchResult, OnOk, OnErr, slice_index};
+ghost use Rattle.archive.specs.First.{Blames, Faultless, First};
 ghost use Rattle.archive.specs.Layout.{alone_verdicts, alone_fault, state_fault};
 ghost use Rattle.archive.specs.Held.{Holds};
 ghost use Rattle.archive.specs.Writes.{length_of, LaidOut, RunOf, Telling};
@@ -10,14 +10,15 @@ ghost use Rattle.cyclotomic.specs.declared.refusal.Refusal.TheVariants.{Buffer};
 use crate::build::build;
 use crate::fault::{Field, Rule, StateFault};
 use crate::layout::state_end;
-use crate::put::{bit_count, put_fields, set_bits};
+use crate::pivots::Pivots;
+use crate::put::{bit_count, put_fields};
 use cyclotomic::refusal::Refusal;
 use stabilizer::state::StabilizerState;
 
 // Whether the bytes are those of one state and nothing else.
 fn alone(bytes: &[u8]) -> Result<(), StateFault>
-    ensures { MatchResult result (λ _. (alone_fault bytes.now ≡ None) × (state_fault bytes.now 0 ≡ None))
-        (λ f. alone_fault bytes.now ≡ Some f) }
+    ensures verdict { Blames result (alone_fault bytes.now) }
+    ensures sound { OnOk result (state_fault bytes.now 0 ≡ None) }
 {
     let end = state_end(bytes, 0)?;
     if end / 8 < bytes.len() {
@@ -32,24 +33,22 @@ fn alone(bytes: &[u8]) -> Result<(), StateFault>
 
 // Reads the state that the bytes hold; refused, the state stays as it was.
 pub fn read(state: &mut StabilizerState, bytes: &[u8]) -> Result<(), StateFault>
-    ensures verdict { MatchResult result (λ _. alone_fault bytes.now ≡ None) (λ f. alone_fault bytes.now ≡ Some f) }
+    ensures verdict { Blames result (alone_fault bytes.now) }
     ensures first { MatchResult result (λ _. Faultless (alone_verdicts bytes.now)) (First (alone_verdicts bytes.now)) }
     ensures state { MatchResult result (λ _. Holds bytes.now 0 state.new) (λ _. state.new ≡ state.old) }
     ensures layout { OnOk result (LaidOut state.new bytes.now) }
 {
-    match alone(bytes) {
-        Ok(()) => {
-            *state = build(bytes, 0);
-            Ok(())
-        }
-        Err(fault) => Err(fault),
-    }
+    alone(bytes)?;
+    *state = build(bytes, 0);
+    Ok(())
 }
 
 // Writes the bytes of a state, and answers how many; the bytes past them stay, and refused all do.
 pub fn write(state: &StabilizerState, buffer: &mut [u8]) -> Result<usize, Refusal>
-    ensures length { MatchResult result (λ m. (m ≡ length_of state.now) × (m ≤ length buffer.old) × (4 ≤ m) × (m ≤ 451))
-        (λ e. (e ≡ Buffer) × (length buffer.old < length_of state.now)) }
+    ensures length { MatchResult result (λ m. m ≡ length_of state.now) (λ e. e ≡ Buffer) }
+    ensures room { MatchResult result (λ m. m ≤ length buffer.old) (λ _. length buffer.old < length_of state.now) }
+    ensures least { IfOk result (λ m. 4 ≤ m) }
+    ensures most { IfOk result (λ m. m ≤ 451) }
     ensures bytes { MatchResult result (λ m. RunOf state.now (take m buffer.new))
         (λ _. buffer.new ≡ buffer.old) }
     ensures layout { IfOk result (λ m. LaidOut state.now (take m buffer.new)) }
@@ -58,12 +57,13 @@ pub fn write(state: &StabilizerState, buffer: &mut [u8]) -> Result<usize, Refusa
         (λ _. Unit {0}) }
 {
     let n = state.qubits() as usize;
-    let (leads, k) = set_bits(state.body().pivots());
-    let length = bit_count(n, k).div_ceil(8);
+    let pivots = Pivots::of_mask(state.body().pivots());
+    let pivots = pivots.as_slice();
+    let length = bit_count(n, pivots.len()).div_ceil(8);
     if buffer.len() < length {
         return Err(Refusal::Buffer);
     }
-    put_fields(buffer, n, k, state.loss(), &leads, state.body());
+    put_fields(buffer, n, state.loss(), pivots, state.body());
     Ok(length)
 }
 
@@ -73,21 +73,19 @@ pub fn reread(
     copy: &mut StabilizerState,
     buffer: &mut [u8],
 ) -> Result<usize, Refusal>
-    ensures length { MatchResult result (λ m. m ≡ length_of state.now)
-        (λ e. (e ≡ Buffer) × (length buffer.old < length_of state.now)) }
+    ensures length { MatchResult result (λ m. m ≡ length_of state.now) (λ e. e ≡ Buffer) }
+    ensures room { OnErr result (length buffer.old < length_of state.now) }
     ensures copied { MatchResult result (λ _. SameState copy.new state.now) (λ _. copy.new ≡ copy.old) }
     ensures bytes { MatchResult result (λ m. RunOf state.now (take m buffer.new))
         (λ _. buffer.new ≡ buffer.old) }
     ensures past { MatchResult result (λ m. (i : ℕ) → m ≤ i → slice_index buffer.new i ≡ slice_index buffer.old i)
         (λ _. Unit {0}) }
 {
-    match write(state, buffer) {
-        Ok(length) => match read(copy, &buffer[0..length]) {
-            Ok(()) => Ok(length),
-            Err(_) => unreachable(),
-        },
-        Err(refusal) => Err(refusal),
-    }
+    let written = write(state, buffer)?;
+    let Ok(()) = read(copy, &buffer[..written]) else {
+        unreachable()
+    };
+    Ok(written)
 }
 
 // Reads a state and writes it again: what is written are the same bytes. None where the buffer is shorter than these. The bytes past
@@ -97,18 +95,14 @@ pub fn rewrite(
     bytes: &[u8],
     buffer: &mut [u8],
 ) -> Result<Option<usize>, StateFault>
-    ensures bytes { MatchResult result (λ o. MatchOption o (length buffer.old < length bytes.now)
-        (λ m. take m buffer.new ≡ bytes.now)) (λ f. alone_fault bytes.now ≡ Some f) }
+    ensures verdict { Blames result (alone_fault bytes.now) }
+    ensures bytes { IfOk result (λ o. MatchOption o (length buffer.old < length bytes.now)
+        (λ m. take m buffer.new ≡ bytes.now)) }
     ensures state { MatchResult result (λ _. Holds bytes.now 0 state.new) (λ _. state.new ≡ state.old) }
     ensures past { MatchResult result (λ o. MatchOption o (buffer.new ≡ buffer.old)
         (λ m. (i : ℕ) → m ≤ i → slice_index buffer.new i ≡ slice_index buffer.old i))
         (λ _. buffer.new ≡ buffer.old) }
 {
-    match read(state, bytes) {
-        Ok(()) => match write(state, buffer) {
-            Ok(length) => Ok(Some(length)),
-            Err(_) => Ok(None),
-        },
-        Err(fault) => Err(fault),
-    }
+    read(state, bytes)?;
+    Ok(write(state, buffer).ok())
 }

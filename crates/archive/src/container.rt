@@ -1,11 +1,11 @@
 // Archives: a count byte, and as many states, each from a byte's start.
-ghost use Rattle.std.specs.Prelude.{◌≡◌, ◌+◌, ◌-◌, ◌*◌, ◌/◌, ◌^◌, ◌<◌, ◌≤◌, length, Some, None, MatchResult};
-ghost use Rattle.archive.specs.First.{Faultless, First};
+ghost use Rattle.std.specs.Prelude.{◌≡◌, ◌+◌, ◌-◌, ◌*◌, ◌/◌, ◌^◌, ◌<◌, ◌≤◌, length, None, IfOk, MatchResult, OnOk};
+ghost use Rattle.archive.specs.First.{Blames, Faultless, First};
 ghost use Rattle.archive.specs.Held.{Holds};
-ghost use Rattle.archive.specs.Layout.{state_fault};
+ghost use Rattle.archive.specs.Layout.{state_fault, end_of_state};
 ghost use Rattle.archive.specs.declared.container.Denial.TheVariants.{Fault, Refused};
 ghost use Rattle.archive.specs.Denials.{denial_number, denied};
-ghost use Rattle.archive.specs.Archives.{count_of, place_after, states_fault, archive_verdicts, archive_fault, part_of};
+ghost use Rattle.archive.specs.Archives.{carried, count_of, place_after, states_fault, archive_verdicts, archive_fault, part_of};
 
 use crate::build::build;
 use crate::fault::{ArchiveFault, BitsFault, Field, StateFault};
@@ -59,27 +59,41 @@ impl Denial<StateFault> {
     }
 }
 
+// The place after a state, the one with the number, that begins at a place.
+fn sheet_end(archive: &[u8], place: usize, sheet: u64) -> Result<usize, ArchiveFault>
+    requires { place ≤ 2 ^ 31 }
+    ensures verdict { Blames result (carried sheet (state_fault archive.now place)) }
+    ensures end { IfOk result (λ q. q ≡ end_of_state archive.now place) }
+    ensures near { IfOk result (λ q. q ≤ place + 4096) }
+    ensures inside { IfOk result (λ q. q ≤ 8 * length archive.now) }
+{
+    state_end(archive, place).map_err(|fault| ArchiveFault::from(fault).numbered(sheet))
+}
+
 // The place after m states that begin at a place, behind the first `done`.
 pub(crate) fn skip(archive: &[u8], at: usize, done: usize, m: usize) -> Result<usize, ArchiveFault>
-    requires { (at ≡ place_after archive.now done) × ((at ≤ 8 + done * 4096) × ((done + m ≤ 255) × (at ≤ 8 * length archive.now))) }
-    ensures { MatchResult result (λ q. (states_fault archive.now done m ≡ None)
-        × (q ≡ place_after archive.now (done + m)) × (q ≤ 8 + (done + m) * 4096) × (q ≤ 8 * length archive.now))
-        (λ f. states_fault archive.now done m ≡ Some f) }
+    requires place { at ≡ place_after archive.now done }
+    requires near { at ≤ 8 + done * 4096 }
+    requires few { done + m ≤ 255 }
+    requires inside { at ≤ 8 * length archive.now }
+    ensures verdict { Blames result (states_fault archive.now done m) }
+    ensures place { IfOk result (λ q. q ≡ place_after archive.now (done + m)) }
+    ensures near { IfOk result (λ q. q ≤ 8 + (done + m) * 4096) }
+    ensures inside { IfOk result (λ q. q ≤ 8 * length archive.now) }
 {
     let mut place = at;
-    for i in 0..m {
-        match state_end(archive, place) {
-            Ok(end) => place = end,
-            Err(fault) => return Err(ArchiveFault::from(fault).numbered((done + i + 1) as u64)),
-        }
+    for i in done..done + m {
+        place = sheet_end(archive, place, (i + 1) as u64)?;
     }
     Ok(place)
 }
 
 // The count of an archive without a fault.
 pub(crate) fn counted(archive: &[u8]) -> Result<usize, ArchiveFault>
-    ensures { MatchResult result (λ n. (archive_fault archive.now ≡ None) × (n ≡ count_of archive.now) × (n ≤ 100)
-        × (0 < length archive.now)) (λ f. archive_fault archive.now ≡ Some f) }
+    ensures verdict { Blames result (archive_fault archive.now) }
+    ensures count { IfOk result (λ n. n ≡ count_of archive.now) }
+    ensures few { IfOk result (λ n. n ≤ 100) }
+    ensures some { OnOk result (0 < length archive.now) }
 {
     let [count, rest @ ..] = archive else {
         return Err(ArchiveFault::from(BitsFault {
@@ -100,23 +114,24 @@ pub(crate) fn counted(archive: &[u8]) -> Result<usize, ArchiveFault>
 
 // Checks a whole archive, and answers its count.
 pub fn check(archive: &[u8]) -> Result<u64, ArchiveFault>
-    ensures verdict { MatchResult result (λ n. (archive_fault archive.now ≡ None) × (n ≡ count_of archive.now))
-        (λ f. archive_fault archive.now ≡ Some f) }
+    ensures verdict { Blames result (archive_fault archive.now) }
+    ensures count { IfOk result (λ n. n ≡ count_of archive.now) }
     ensures first { MatchResult result (λ _. Faultless (archive_verdicts archive.now))
         (First (archive_verdicts archive.now)) }
 {
-    match counted(archive) {
-        Ok(count) => Ok(count as u64),
-        Err(fault) => Err(fault),
-    }
+    let count = counted(archive)?;
+    Ok(count as u64)
 }
 
 // Checks a whole archive, and answers the bytes from which on and up to which its state with the number stands.
 fn locate(archive: &[u8], i: u64) -> Result<(usize, usize), Denial<ArchiveFault>>
-    ensures { MatchResult result (λ s. (denied archive.now i ≡ None) × (8 * s.0 ≡ place_after archive.now (i - 1))
-        × (8 * s.1 ≡ place_after archive.now i) × (s.0 ≤ s.1) × (s.1 ≤ length archive.now) × (s.0 ≤ 2 ^ 20)
-        × (state_fault archive.now (place_after archive.now (i - 1)) ≡ None))
-        (λ d. denied archive.now i ≡ Some d) }
+    ensures verdict { Blames result (denied archive.now i) }
+    ensures from { IfOk result (λ s. 8 * s.0 ≡ place_after archive.now (i - 1)) }
+    ensures to { IfOk result (λ s. 8 * s.1 ≡ place_after archive.now i) }
+    ensures order { IfOk result (λ s. s.0 ≤ s.1) }
+    ensures inside { IfOk result (λ s. s.1 ≤ length archive.now) }
+    ensures near { IfOk result (λ s. s.0 ≤ 2 ^ 20) }
+    ensures sound { OnOk result (state_fault archive.now (place_after archive.now (i - 1)) ≡ None) }
 {
     let count = counted(archive)?;
     if i < 1 || i > count as u64 {
@@ -130,26 +145,20 @@ fn locate(archive: &[u8], i: u64) -> Result<(usize, usize), Denial<ArchiveFault>
 
 // The part of an archive that is its state with the number.
 pub fn view<'a>(archive: &'a [u8], i: u64) -> Result<&'a [u8], Denial<ArchiveFault>>
-    ensures { MatchResult result (λ part. (denied archive.now i ≡ None) × (part.now ≡ part_of archive.now i))
-        (λ d. denied archive.now i ≡ Some d) }
+    ensures verdict { Blames result (denied archive.now i) }
+    ensures part { IfOk result (λ part. part.now ≡ part_of archive.now i) }
 {
-    match locate(archive, i) {
-        Ok((from, to)) => Ok(&archive[from..to]),
-        Err(denial) => Err(denial),
-    }
+    let (from, to) = locate(archive, i)?;
+    Ok(&archive[from..to])
 }
 
 // Reads the state with the number from an archive; denied, the state stays as it was.
 pub fn take(state: &mut StabilizerState, archive: &[u8], i: u64) -> Result<(), Denial<ArchiveFault>>
-    ensures verdict { MatchResult result (λ _. denied archive.now i ≡ None) (λ d. denied archive.now i ≡ Some d) }
+    ensures verdict { Blames result (denied archive.now i) }
     ensures state { MatchResult result (λ _. Holds archive.now (place_after archive.now (i - 1)) state.new)
         (λ _. state.new ≡ state.old) }
 {
-    match locate(archive, i) {
-        Ok((from, _to)) => {
-            *state = build(archive, 8 * from);
-            Ok(())
-        }
-        Err(denial) => Err(denial),
-    }
+    let (from, _) = locate(archive, i)?;
+    *state = build(archive, 8 * from);
+    Ok(())
 }

@@ -1,6 +1,7 @@
 // Whether the bits from a place on are those of a state: field by field, up to the first fault.
-ghost use Rattle.std.specs.Prelude.{◌≡◌, ℕ, ◌+◌, ◌-◌, ◌*◌, ◌/◌, ◌%◌, ◌^◌, ◌<◌, ◌≤◌, ◌&&◌, ltb, [], ◌∷◌, length, if◌then◌else◌, Some, None, MatchResult, ◌==◌, bit_and, nat_lt};
+ghost use Rattle.std.specs.Prelude.{◌≡◌, ℕ, ◌+◌, ◌-◌, ◌*◌, ◌/◌, ◌%◌, ◌^◌, ◌<◌, ◌≤◌, ◌&&◌, ltb, [], ◌∷◌, length, if◌then◌else◌, Some, None, IfOk, MatchResult, ◌==◌, bit_and, nat_lt};
 ghost use Rattle.archive.specs.Bits.{bits_from};
+ghost use Rattle.archive.specs.First.{Blames};
 ghost use Rattle.archive.specs.Layout.{free, ranged, rows, shift, copies, lead, off_leads, size_at, rank_at, header};
 ghost use Rattle.archive.specs.Layout.{first_fault, state_fault, end_of_state};
 
@@ -147,8 +148,10 @@ fn shift_fits(bytes: &[u8], start: usize, n: usize, k: usize, leads: u64) -> Res
 // Whether a state stands at the start, without a fault; then the place where it ends.
 pub(crate) fn state_end(bytes: &[u8], start: usize) -> Result<usize, StateFault>
     requires { start ≤ 2 ^ 31 }
-    ensures { MatchResult result (λ q. (state_fault bytes.now start ≡ None) × (q ≡ end_of_state bytes.now start)
-        × (q ≤ start + 4096) × (q ≤ 8 * length bytes.now)) (λ f. state_fault bytes.now start ≡ Some f) }
+    ensures verdict { Blames result (state_fault bytes.now start) }
+    ensures end { IfOk result (λ q. q ≡ end_of_state bytes.now start) }
+    ensures near { IfOk result (λ q. q ≤ start + 4096) }
+    ensures inside { IfOk result (λ q. q ≤ 8 * length bytes.now) }
 {
     let (n, k) = header(bytes, start)?;
     let leads = pivots(bytes, start, n, k)?;

@@ -8,4 +8,5 @@ pub mod container;
 pub mod fault;
 mod layout;
 pub mod load;
+mod pivots;
 mod put;

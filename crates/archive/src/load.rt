@@ -1,5 +1,5 @@
 // All states of an archive at once.
-ghost use Rattle.std.specs.Prelude.{◌≡◌, None, vec_len, MatchResult};
+ghost use Rattle.std.specs.Prelude.{◌≡◌, None, vec_len, IfOk, MatchResult};
 ghost use Rattle.archive.specs.declared.load.LoadError.TheVariants.{Archive, Memory};
 ghost use Rattle.archive.specs.Archives.{count_of, archive_fault};
 ghost use Rattle.archive.specs.Loads.{InTurn, fault_of};
@@ -35,8 +35,9 @@ impl<T: Drop> From<AllocFailed<T>> for LoadError {
 
 // Checks a whole archive, and answers its states in turn.
 pub fn load(heap: Global, archive: &[u8]) -> Result<Vec<StabilizerState>, LoadError>
-    ensures { MatchResult result (λ v. (archive_fault archive.now ≡ None) × (vec_len v ≡ count_of archive.now)
-        × InTurn archive.now 0 v.items) (λ e. archive_fault archive.now ≡ fault_of e) }
+    ensures verdict { MatchResult result (λ _. archive_fault archive.now ≡ None) (λ e. archive_fault archive.now ≡ fault_of e) }
+    ensures count { IfOk result (λ states. vec_len states ≡ count_of archive.now) }
+    ensures turn { IfOk result (λ states. InTurn archive.now 0 states.items) }
 {
     let count = counted(archive)?;
     let mut states = Vec::new(heap);

@@ -40,7 +40,7 @@ impl Tally {
 
     // Adds up the intersection of two states in both rings, unless it has too many dimensions.
     fn sum(&mut self, t: &StabilizerState, s: &StabilizerState) {
-        let mut both = Intersection::Empty;
+        let mut both = Intersection { space: None };
         if intersect(&mut both, t, s).is_err() {
             return;
         }

@@ -1,5 +1,6 @@
 -- The text of an answer.
 use Rattle.std.specs.Prelude.{ℕ, ℤ, ◌/◌, ◌%◌, List, ◌++◌, codes, decimal, min}
+use Rattle.std.specs.Option.{option_map_or}
 use Rattle.std.specs.Fmt.{signed_decimal}
 use Rattle.archive.specs.Faults.{fault_text}
 use Rattle.cyclotomic.specs.Columns.{hex_at, word_at}
@@ -9,7 +10,6 @@ use Rattle.listing.specs.Digits.{glyphs, hex_text}
 use Rattle.listing.specs.Fields.{dimension_of, fields_text, space_text}
 use Rattle.listing.specs.Texts.{mark_text}
 use Rattle.quadratic.specs.declared.intersection.Intersection.{Intersection}
-use Rattle.quadratic.specs.declared.intersection.Intersection.TheVariants.{Empty, Space}
 use Rattle.console.specs.declared.answer.Answer.{Answer}
 use Rattle.console.specs.declared.answer.Answer.TheVariants.{Help, Done, Refused, Fault, Unreadable, Bytes, Length, Number, Fields}
 use Rattle.console.specs.declared.answer.Answer.TheVariants.{Scalar, Common, Mark, Aside, Coordinates, Total, Value, Count}
@@ -39,8 +39,8 @@ value_text (Quad v) = glyphs (λ i. hex_at 16 (word_at v.a0 v.a1 v.a2 v.a3 (i / 
 
 -- an intersection of states of n qubits: its dimension and its space
 abbrev pub common_text : Intersection → ℕ → List ℕ
-common_text Empty n = codes "empty"
-common_text (Space s) n = decimal (dimension_of s) ++ (codes " " ++ space_text (min n 48) s)
+common_text x n =
+    option_map_or (λ s. decimal (dimension_of s) ++ (codes " " ++ space_text (min n 48) s)) x.space (codes "empty")
 
 -- a number, and bytes behind it
 abbrev pub counted_text : ℕ → List ℕ → List ℕ

@@ -1,7 +1,6 @@
 -- What a command does to the session.
-use Rattle.std.specs.Prelude.{◌≡◌, map, vec_items}
+use Rattle.std.specs.Prelude.{◌≡◌, None, map, vec_items}
 use Rattle.circuit.specs.Made.{call_of}
-use Rattle.quadratic.specs.declared.intersection.Intersection.TheVariants.{Empty}
 use Rattle.stabilizer.specs.States.{Opened}
 use Rattle.stabilizer.specs.declared.state.StabilizerState.{StabilizerState}
 use Rattle.console.specs.Commands.{Opens, Gates, Projects, Reads, Takes, Writes, WritesInto, ShowsAmplitude, ShowsOverlap, ShowsSplit}
@@ -31,7 +30,7 @@ with_state x NamedT state = record x { t = state }
 pub record Fresh (x : Session) : Type 0 where
   pub s : Opened x.s 1
   pub t : Opened x.t 1
-  pub last : x.last ≡ Empty
+  pub last : x.last.space ≡ None
 
 -- a command that only looks
 abbrev pub Looks : Command → Type 0

@@ -65,9 +65,9 @@ impl fmt::Display for Common {
     ghost output = { λ x. Some (common_text x.both x.qubits) };
 
     fn fmt<W: fmt::Write>(&self, f: &mut fmt::Formatter<W>) -> fmt::Result {
-        match &self.both {
-            Intersection::Empty => f.write_str("empty"),
-            Intersection::Space(space) => {
+        match &self.both.space {
+            None => f.write_str("empty"),
+            Some(space) => {
                 let text = SpaceText {
                     space,
                     qubits: self.qubits,

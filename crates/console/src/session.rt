@@ -45,7 +45,7 @@ impl Session {
         Session {
             s: StabilizerState::new(),
             t: StabilizerState::new(),
-            last: Intersection::Empty,
+            last: Intersection { space: None },
         }
     }
 

@@ -1,11 +1,12 @@
 // Describes an archive: standard input has its bytes, standard output gets a line for each of its states and for each pair of them.
 #![tactic(auto)]
 
-use listing::description::describe;
+use listing::description::Description;
+use listing::sheets::Document;
 use std::io;
 use std::io::BufWriter;
 
 fn main(rt: HostRuntime) -> io::Result<()> {
     let mut out = BufWriter::new(rt.alloc(), rt.stdout())?;
-    describe(rt.alloc(), &mut rt.stdin(), &mut out)
+    Description::render(rt.alloc(), &mut rt.stdin(), &mut out)
 }

@@ -4,6 +4,7 @@
 ghost use Rattle.std.specs.Prelude.{◌≡◌, ℕ, ◌<◌, ◌≤◌, length, IfOk, Some, None, MatchResult, slice_index};
 ghost use Rattle.cyclotomic.specs.Scalars.{triple_of};
 ghost use Rattle.archive.specs.Denials.{denial_number};
+ghost use Rattle.archive.specs.First.{Blames};
 ghost use Rattle.host.specs.Answers.{pair_denial, pair_number, entry_number, word_of, bytes_of, Overlapped, Answered};
 
 use archive::codec::read;
@@ -15,7 +16,7 @@ use stabilizer::state::StabilizerState;
 // The overlap of the states that two runs of bytes hold.
 pub fn overlap_of(t: &[u8], s: &[u8]) -> Result<Scalar, Denial<StateFault>>
     ensures number { MatchResult result (λ _. pair_number t.now s.now ≡ 0) (λ d. denial_number d ≡ pair_number t.now s.now) }
-    ensures denial { MatchResult result (λ _. pair_denial t.now s.now ≡ None) (λ d. pair_denial t.now s.now ≡ Some d) }
+    ensures denial { Blames result (pair_denial t.now s.now) }
     ensures value { IfOk result (Overlapped t.now s.now) }
 {
     let mut first = StabilizerState::new();
@@ -32,23 +33,7 @@ pub fn packed(x: Scalar) -> [u8; 4]
 {
     let size = x.power().unsigned_abs() % 16384;
     let word = ((x.epsilon() * 16384 + size) * 8 + x.turn()) * 16384;
-    [
-        (word >> 24) as u8,
-        ((word >> 16) % 256) as u8,
-        ((word >> 8) % 256) as u8,
-        (word % 256) as u8,
-    ]
-}
-
-// Writes four bytes at the start of a buffer.
-fn put(answer: &mut [u8], bytes: [u8; 4])
-    requires { 4 ≤ length answer.old }
-    ensures front { (k : ℕ) → k < 4 → slice_index answer.new k ≡ slice_index bytes k }
-    ensures rest { (k : ℕ) → 4 ≤ k → slice_index answer.new k ≡ slice_index answer.old k }
-{
-    for i in 0..4 {
-        answer[i] = bytes[i];
-    }
+    (word as u32).to_be_bytes()
 }
 
 // Writes the overlap of two states, given as bytes, into the first four bytes of the answer, and answers 0; or answers the number of
@@ -64,7 +49,7 @@ pub fn overlap(t: &[u8], s: &[u8], answer: &mut [u8]) -> u8
     }
     match overlap_of(t, s) {
         Ok(x) => {
-            put(answer, packed(x));
+            answer[..4].copy_from_slice(&packed(x));
             0
         }
         Err(denial) => denial.number() as u8,

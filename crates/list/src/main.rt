@@ -1,11 +1,11 @@
 // Lists an archive: standard input has its bytes, standard output gets a line for each pair of its states.
 #![tactic(auto)]
 
-use listing::sheets::list;
+use listing::sheets::{Document, Listing};
 use std::io;
 use std::io::BufWriter;
 
 fn main(rt: HostRuntime) -> io::Result<()> {
     let mut out = BufWriter::new(rt.alloc(), rt.stdout())?;
-    list(rt.alloc(), &mut rt.stdin(), &mut out)
+    Listing::render(rt.alloc(), &mut rt.stdin(), &mut out)
 }

@@ -1,7 +1,6 @@
 -- Pairs of numbers in rising order, and lines for them, put one after another.
-use Rattle.std.proofs.Common.{◌≡◌, ℕ, suc, ◌+◌, ◌⊎◌, inl, inr, List, [], ◌∷◌, ◌++◌, Some, Option, IfSome, refl, sym, ap, ◌∙◌, subst, arith, append-nil}
+use Rattle.std.proofs.Common.{◌≡◌, ℕ, suc, ◌+◌, ◌⊎◌, inl, inr, List, [], ◌∷◌, ◌++◌, Some, Option, refl, sym, ap, ◌∙◌, subst, arith, append-nil}
 use Rattle.std.specs.Prelude.{All, AllPairs, Contains, slice_get}
-use Rattle.std.specs.Fmt.{with_newline}
 use Rattle.std.specs.List.{flat_map}
 use Rattle.std.specs.Io.KnownBytes.{Appends}
 use Rattle.std.proofs.Math.Nat.{add-sub_cancel}
@@ -12,7 +11,10 @@ use Rattle.std.proofs.lemmas.List.Elements.{All-nil, All-cons, All-head, All-tai
 use Rattle.std.proofs.lemmas.List.Kept.{AllPairs-cons}
 use Rattle.stabilizer.specs.declared.state.StabilizerState.{StabilizerState}
 use Rattle.listing.specs.Pairs.{Before, InOrder, HoldsOf, Lines}
+use Rattle.listing.specs.Lines.{LineTells, line_numbers}
+use Rattle.listing.specs.Texts.{line_text}
 use Rattle.listing.specs.Written.{Writes, ended}
+use Rattle.listing.specs.declared.line.Line.{Line}
 
 -- a relation of each element and each later one, of two lists in a row
 AllPairs-append : {X : Type 0} (R : X → X → Type 0) (xs ys : List X) → AllPairs R xs → AllPairs R ys
@@ -64,68 +66,62 @@ InOrder-one q =
       complete = λ p e. subst (Contains (q ∷ [])) (sym e) (Contains-push [] q);
     }
 
-module _ {L : Type 0}
-    (shown : L → List ℕ)
-    (numbers : L → ℕ × ℕ)
-    (tells : L → StabilizerState → StabilizerState → Type 0)
+module _ {A : Type 0}
+    (shown : A → List ℕ)
+    (tells : A → StabilizerState → StabilizerState → Type 0)
     (states : List StabilizerState) where
-  Lines-nil : (P : ℕ × ℕ → Type 0) → ((p : ℕ × ℕ) → P p → ⊥) → Lines shown numbers tells states P []
+  Lines-nil : (P : ℕ × ℕ → Type 0) → ((p : ℕ × ℕ) → P p → ⊥) → Lines shown tells states P []
   Lines-nil P none = record { lines = []; pairs = InOrder-nil P none; told = All-nil _; written = refl }
 
-  Lines-one : (l : L) (q : ℕ × ℕ) → numbers l ≡ q → HoldsOf (tells l) states q
-      → Lines shown numbers tells states (λ p. p ≡ q) (ended (shown l))
+  Lines-one : (l : Line A) (q : ℕ × ℕ) → line_numbers l ≡ q → HoldsOf (LineTells tells l) states q
+      → Lines shown tells states (λ p. p ≡ q) (ended (line_text shown l))
   Lines-one l q e h =
       record {
         lines = l ∷ [];
         pairs = subst (λ (x : ℕ × ℕ). InOrder (λ p. p ≡ q) (x ∷ [])) (sym e) (InOrder-one q);
-        told = All-cons (λ x. HoldsOf (tells x) states (numbers x)) l [] (subst (HoldsOf (tells l) states) (sym e) h) (All-nil _);
-        written = sym (append-nil (ended (shown l)));
+        told = All-cons (λ x. HoldsOf (LineTells tells x) states (line_numbers x)) l [] (subst (HoldsOf (LineTells tells l) states) (sym e) h) (All-nil _);
+        written = sym (append-nil (ended (line_text shown l)));
       }
 
   -- the lines of one text behind those of another
-  Lines-append : (P Q R : ℕ × ℕ → Type 0) (a b : List ℕ) → Joined P Q R → Lines shown numbers tells states P a
-      → Lines shown numbers tells states Q b → Lines shown numbers tells states R (a ++ b)
+  Lines-append : (P Q R : ℕ × ℕ → Type 0) (a b : List ℕ) → Joined P Q R → Lines shown tells states P a
+      → Lines shown tells states Q b → Lines shown tells states R (a ++ b)
   Lines-append P Q R a b j p q =
       record {
         lines = p.lines ++ q.lines;
-        pairs = subst (InOrder R) (sym (map-append numbers p.lines q.lines)) (InOrder-append P Q R _ _ j p.pairs q.pairs);
-        told = All-append (λ x. HoldsOf (tells x) states (numbers x)) p.lines q.lines p.told q.told;
+        pairs = subst (InOrder R) (sym (map-append line_numbers p.lines q.lines)) (InOrder-append P Q R _ _ j p.pairs q.pairs);
+        told = All-append (λ x. HoldsOf (LineTells tells x) states (line_numbers x)) p.lines q.lines p.told q.told;
         written = ap (λ (t : List ℕ). t ++ b) p.written
-            ∙ (ap (λ (t : List ℕ). flat_map (λ l. ended (shown l)) p.lines ++ t) q.written
-            ∙ sym (flat_map-append (λ l. ended (shown l)) p.lines q.lines));
+            ∙ (ap (λ (t : List ℕ). flat_map (λ l. ended (line_text shown l)) p.lines ++ t) q.written
+            ∙ sym (flat_map-append (λ l. ended (line_text shown l)) p.lines q.lines));
       }
 
   -- more lines are written
   pub Writes-append : (P Q R : ℕ × ℕ → Type 0) (u v w : Option (List ℕ)) → Joined P Q R
-      → Writes (Lines shown numbers tells states P) u v → Writes (Lines shown numbers tells states Q) v w
-      → Writes (Lines shown numbers tells states R) u w
+      → Writes (Lines shown tells states P) u v → Writes (Lines shown tells states Q) v w
+      → Writes (Lines shown tells states R) u w
   Writes-append P Q R u v w j p q = (p.0 ++ q.0, Lines-append P Q R p.0 q.0 j p.1 q.1, Appends-trans u v w p.0 q.0 p.2 q.2)
 
   -- a line more is written
-  pub Writes-line : (P R : ℕ × ℕ → Type 0) (u v w : Option (List ℕ)) (l : L) (q : ℕ × ℕ) → Joined P (λ p. p ≡ q) R
-      → Writes (Lines shown numbers tells states P) u v → numbers l ≡ q → HoldsOf (tells l) states q → Appends v w (ended (shown l))
-      → Writes (Lines shown numbers tells states R) u w
+  pub Writes-line : (P R : ℕ × ℕ → Type 0) (u v w : Option (List ℕ)) (l : Line A) (q : ℕ × ℕ) → Joined P (λ p. p ≡ q) R
+      → Writes (Lines shown tells states P) u v → line_numbers l ≡ q → HoldsOf (LineTells tells l) states q → Appends v w (ended (line_text shown l))
+      → Writes (Lines shown tells states R) u w
   Writes-line P R u v w l q j p e h put =
-      Writes-append P (λ x. x ≡ q) R u v w j p (ended (shown l), Lines-one l q e h, put)
+      Writes-append P (λ x. x ≡ q) R u v w j p (ended (line_text shown l), Lines-one l q e h, put)
 
   -- no line is written yet
   pub Writes-nil : (P : ℕ × ℕ → Type 0) (u : Option (List ℕ)) → ((p : ℕ × ℕ) → P p → ⊥)
-      → Writes (Lines shown numbers tells states P) u u
+      → Writes (Lines shown tells states P) u u
   Writes-nil P u none = ([], Lines-nil P none, Appends-nil u)
 
   -- the same lines, by another word for their numbers
   pub Writes-same : (P Q : ℕ × ℕ → Type 0) (u v : Option (List ℕ)) → ((p : ℕ × ℕ) → P p → Q p) → ((p : ℕ × ℕ) → Q p → P p)
-      → Writes (Lines shown numbers tells states P) u v → Writes (Lines shown numbers tells states Q) u v
+      → Writes (Lines shown tells states P) u v → Writes (Lines shown tells states Q) u v
   Writes-same P Q u v there back p = (
     p.0,
     record { lines = p.1.lines; pairs = InOrder-same P Q _ there back p.1.pairs; told = p.1.told; written = p.1.written },
     p.2,
   )
-
--- a line of a text that is known
-pub ended-shown : (o : Option (List ℕ)) (text : List ℕ) (u v : Option (List ℕ)) → o ≡ Some text
-    → IfSome (with_newline o) (Appends u v) → Appends u v (ended text)
-ended-shown o text u v e p = subst (λ x. IfSome (with_newline x) (Appends u v)) e p
 
 -- what stands at a place has that place's number
 pub HoldsOf-at : (R : StabilizerState → StabilizerState → Type 0) (states : List StabilizerState) (i j : ℕ) (t s : StabilizerState)

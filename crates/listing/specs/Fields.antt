@@ -1,5 +1,5 @@
 -- The fields of a state as text.
-use Rattle.std.specs.Prelude.{Bool, true, false, ℕ, zero, suc, ◌+◌, ◌-◌, List, [], ◌∷◌, ◌++◌, pos, neg_ℤ, codes, count_ones, decimal}
+use Rattle.std.specs.Prelude.{◌≡◌, Bool, true, false, ℕ, zero, suc, ◌+◌, ◌-◌, ◌≤◌, List, [], ◌∷◌, ◌++◌, pos, neg_ℤ, codes, count_ones, decimal, Some, Option}
 use Rattle.std.specs.Fmt.{signed_decimal}
 use Rattle.std.specs.Option.{unwrap_or}
 use Rattle.quadratic.specs.Bits.{bit}
@@ -17,6 +17,10 @@ bits_text (suc n) y = (48 + bit y n) ∷ bits_text n y
 abbrev pub up_to : {A : Type 0} → (ℕ → A) → ℕ → List A
 up_to f zero = []
 up_to f (suc n) = up_to f n ++ f (suc n) ∷ []
+
+-- what can be had as item 1 to n is shown as these texts
+abbrev pub Shows : {D : Type 0} → ℕ → (D → Option (List ℕ)) → (ℕ → D → Type 0) → (ℕ → List ℕ) → Type 0
+Shows {D} n output had text = (a : ℕ) (x : D) → 1 ≤ a → a ≤ n → had a x → output x ≡ Some (text a)
 
 -- a text behind a comma, or alone
 abbrev pub behind : Bool → List ℕ → List ℕ

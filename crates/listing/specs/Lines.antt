@@ -1,13 +1,12 @@
--- What the listing says of two states.
-use Rattle.std.specs.Prelude.{ℕ, T}
-use Rattle.cyclotomic.specs.Refusals.{number_of}
+-- What the lines say of two states.
+use Rattle.std.specs.Prelude.{◌≡◌, ℕ, T, IfOk}
+use Rattle.cyclotomic.specs.Refusals.{answer_of}
 use Rattle.quadratic.specs.declared.intersection.Intersection.{Intersection}
-use Rattle.stabilizer.specs.Overlaps.{Intersects, Overlaps}
+use Rattle.stabilizer.specs.Overlaps.{sizes_number, Intersects, Overlaps}
 use Rattle.stabilizer.specs.States.{SameState}
 use Rattle.stabilizer.specs.declared.state.StabilizerState.{StabilizerState}
 use Rattle.listing.specs.declared.comparison.Comparison.{Comparison}
-use Rattle.listing.specs.declared.comparison.Outcome.{Outcome}
-use Rattle.listing.specs.declared.comparison.Outcome.TheVariants.{Refused, Compared}
+use Rattle.listing.specs.declared.line.Line.{Line}
 use Rattle.listing.specs.Sums.{ColumnsOf}
 
 -- the overlap of t and s, the columns of their intersection, and whether the two are the same state
@@ -19,11 +18,10 @@ pub record Compares (c : Comparison) (t s : StabilizerState) : Type 0 where
   pub sound : T c.equal → SameState t s
   pub complete : SameState t s → T c.equal
 
--- 0, or the number of the refusal
-abbrev pub outcome_number : Outcome → ℕ
-outcome_number (Refused e) = number_of e
-outcome_number (Compared c) = 0
+abbrev pub line_numbers : {A : Type 0} → Line A → ℕ × ℕ
+line_numbers l = (l.i, l.j)
 
-abbrev pub Tells : Outcome → StabilizerState → StabilizerState → Type 0
-Tells (Refused e) t s = Unit {0}
-Tells (Compared c) t s = Compares c t s
+-- what a line says of two states, where R relates what is said to the two
+pub record LineTells {A : Type 0} (R : A → StabilizerState → StabilizerState → Type 0) (l : Line A) (t s : StabilizerState) : Type 0 where
+  pub number : answer_of l.outcome ≡ sizes_number t s
+  pub told : IfOk l.outcome (λ x. R x t s)

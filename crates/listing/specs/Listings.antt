@@ -4,16 +4,13 @@ use Rattle.archive.specs.Archives.{count_of, archive_fault}
 use Rattle.archive.specs.Faults.{archive_report, fault_text}
 use Rattle.archive.specs.Loads.{InTurn}
 use Rattle.archive.specs.declared.fault.ArchiveFault.{ArchiveFault}
-use Rattle.cyclotomic.specs.Refusals.{answer_of}
-use Rattle.stabilizer.specs.Overlaps.{sizes_number, Overlapping}
+use Rattle.stabilizer.specs.Overlaps.{Overlaps}
 use Rattle.stabilizer.specs.declared.state.StabilizerState.{StabilizerState}
 use Rattle.listing.specs.Fields.{state_lines}
-use Rattle.listing.specs.Lines.{outcome_number, Tells}
+use Rattle.listing.specs.Lines.{Compares}
 use Rattle.listing.specs.Pairs.{IsPair, Lines}
 use Rattle.listing.specs.Written.{ended}
-use Rattle.listing.specs.Texts.{line_text, overlap_text}
-use Rattle.listing.specs.declared.comparison.PairLine.{PairLine}
-use Rattle.listing.specs.declared.overlap_line.OverlapLine.{OverlapLine}
+use Rattle.listing.specs.Texts.{comparison_text, scalar_text}
 
 -- the number of states
 abbrev pub sheets_text : ℕ → List ℕ
@@ -23,30 +20,17 @@ sheets_text n = ended (codes "sheets " ++ decimal n)
 abbrev pub line_of_fault : ArchiveFault → List ℕ
 line_of_fault f = ended (fault_text (archive_report f))
 
-abbrev pub line_numbers : PairLine → ℕ × ℕ
-line_numbers l = (l.i, l.j)
-
--- what a line says of two states
-abbrev pub LineTells : PairLine → StabilizerState → StabilizerState → Type 0
-LineTells l t s = (outcome_number l.outcome ≡ sizes_number t s) × Tells l.outcome t s
-
 -- the listing of states: how many there are, and a line for each pair
 pub record ListsStates (states : List StabilizerState) (text : List ℕ) : Type 0 where
   pub rest : List ℕ
   pub whole : text ≡ sheets_text (length states) ++ rest
-  pub pairs : Lines line_text line_numbers LineTells states (IsPair (length states)) rest
-
-abbrev pub overlap_numbers : OverlapLine → ℕ × ℕ
-overlap_numbers l = (l.i, l.j)
-
-abbrev pub OverlapTells : OverlapLine → StabilizerState → StabilizerState → Type 0
-OverlapTells l t s = (answer_of l.overlap ≡ sizes_number t s) × Overlapping l.overlap t s
+  pub pairs : Lines comparison_text Compares states (IsPair (length states)) rest
 
 -- the description of states: how many there are, the fields of each, and a line for each pair
 pub record DescribesStates (states : List StabilizerState) (text : List ℕ) : Type 0 where
   pub rest : List ℕ
   pub whole : text ≡ sheets_text (length states) ++ (state_lines 1 states ++ rest)
-  pub pairs : Lines overlap_text overlap_numbers OverlapTells states (IsPair (length states)) rest
+  pub pairs : Lines scalar_text Overlaps states (IsPair (length states)) rest
 
 -- the states of an archive in turn, and P of them and the text
 pub record OnStates (P : List StabilizerState → List ℕ → Type 0) (archive text : List ℕ) : Type 0 where
@@ -60,10 +44,14 @@ abbrev pub FaultOr : (List StabilizerState → List ℕ → Type 0) → Option A
 FaultOr P (Some f) archive text = text ≡ line_of_fault f
 FaultOr P None archive text = OnStates P archive text
 
+-- the text of an archive: P of its states, or the line of its fault
+abbrev pub Reports : (List StabilizerState → List ℕ → Type 0) → List ℕ → List ℕ → Type 0
+Reports P archive text = FaultOr P (archive_fault archive) archive text
+
 -- the listing of an archive
 abbrev pub Lists : List ℕ → List ℕ → Type 0
-Lists archive text = FaultOr ListsStates (archive_fault archive) archive text
+Lists = Reports ListsStates
 
 -- the description of an archive
 abbrev pub Describes : List ℕ → List ℕ → Type 0
-Describes archive text = FaultOr DescribesStates (archive_fault archive) archive text
+Describes = Reports DescribesStates

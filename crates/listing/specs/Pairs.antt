@@ -2,7 +2,10 @@
 use Rattle.std.specs.Prelude.{◌≡◌, ℕ, ◌-◌, ◌<◌, ◌≤◌, ◌⊎◌, List, map, All, AllPairs, Contains, Some, slice_get}
 use Rattle.std.specs.List.{flat_map}
 use Rattle.stabilizer.specs.declared.state.StabilizerState.{StabilizerState}
+use Rattle.listing.specs.Lines.{LineTells, line_numbers}
+use Rattle.listing.specs.Texts.{line_text}
 use Rattle.listing.specs.Written.{ended}
+use Rattle.listing.specs.declared.line.Line.{Line}
 
 -- by the first number, and then by the second
 abbrev pub Before : ℕ × ℕ → ℕ × ℕ → Type 0
@@ -28,14 +31,13 @@ HoldsOf R states p =
     (t s : StabilizerState) → slice_get states (p.0 - 1) ≡ Some t → slice_get states (p.1 - 1) ≡ Some s → R t s
 
 -- the text has a line for each pair of numbers with P, in rising order, and each line tells of the states with its numbers
-pub record Lines {L : Type 0}
-    (shown : L → List ℕ)
-    (numbers : L → ℕ × ℕ)
-    (tells : L → StabilizerState → StabilizerState → Type 0)
+pub record Lines {A : Type 0}
+    (shown : A → List ℕ)
+    (R : A → StabilizerState → StabilizerState → Type 0)
     (states : List StabilizerState)
     (P : ℕ × ℕ → Type 0)
     (text : List ℕ) : Type 0 where
-  pub lines : List L
-  pub pairs : InOrder P (map numbers lines)
-  pub told : All (λ l. HoldsOf (tells l) states (numbers l)) lines
-  pub written : text ≡ flat_map (λ l. ended (shown l)) lines
+  pub lines : List (Line A)
+  pub pairs : InOrder P (map line_numbers lines)
+  pub told : All (λ l. HoldsOf (LineTells R l) states (line_numbers l)) lines
+  pub written : text ≡ flat_map (λ l. ended (line_text shown l)) lines

@@ -1,20 +1,18 @@
 -- The text of each part of a listing.
 use Rattle.std.specs.Prelude.{ℕ, ◌/◌, ◌%◌, Bool, true, false, List, ◌++◌, Some, None, Ok, Err, codes, decimal, Option, Result}
-use Rattle.std.specs.Fmt.{signed_decimal}
 use Rattle.cyclotomic.specs.Columns.{hex_at, word_at}
-use Rattle.cyclotomic.specs.Refusals.{number_of}
-use Rattle.cyclotomic.specs.Scalars.{Triple, triple_of}
+use Rattle.cyclotomic.specs.Scalars.{triple_of}
+use Rattle.cyclotomic.specs.Texts.{refusal_text, triple_text}
 use Rattle.cyclotomic.specs.declared.refusal.Refusal.{Refusal}
 use Rattle.cyclotomic.specs.declared.scalar.Scalar.{Scalar}
 use Rattle.listing.specs.declared.columns.Columns.{Columns}
-use Rattle.listing.specs.declared.comparison.Outcome.{Outcome}
-use Rattle.listing.specs.declared.comparison.Outcome.TheVariants.{Refused, Compared}
-use Rattle.listing.specs.declared.comparison.PairLine.{PairLine}
-use Rattle.listing.specs.declared.overlap_line.OverlapLine.{OverlapLine}
+use Rattle.listing.specs.declared.comparison.Comparison.{Comparison}
+use Rattle.listing.specs.declared.line.Line.{Line}
 use Rattle.listing.specs.Digits.{glyphs}
 
-abbrev pub triple_text : Triple → List ℕ
-triple_text x = decimal x.0 ++ (codes " " ++ (signed_decimal x.1 ++ (codes " " ++ decimal x.2)))
+-- ε p m
+abbrev pub scalar_text : Scalar → List ℕ
+scalar_text x = triple_text (triple_of x)
 
 -- two digits of a residue; four words of sixteen
 abbrev pub columns_text : Option Columns → List ℕ
@@ -27,19 +25,15 @@ abbrev pub mark_text : Bool → List ℕ
 mark_text true = codes "="
 mark_text false = codes "."
 
-abbrev pub outcome_text : Outcome → List ℕ
-outcome_text (Refused e) = codes "refused " ++ decimal (number_of e)
-outcome_text (Compared c) = triple_text (triple_of c.overlap) ++
-    (codes " " ++ (columns_text c.columns ++ (codes " " ++ mark_text c.equal)))
+-- overlap, columns, and whether the states are the same
+abbrev pub comparison_text : Comparison → List ℕ
+comparison_text c = scalar_text c.overlap ++ (codes " " ++ (columns_text c.columns ++ (codes " " ++ mark_text c.equal)))
 
--- i j ε p m residue quad mark, or i j refused 23
-abbrev pub line_text : PairLine → List ℕ
-line_text l = decimal l.i ++ (codes " " ++ (decimal l.j ++ (codes " " ++ outcome_text l.outcome)))
+-- what is said, or the refusal
+abbrev pub outcome_text : {A : Type 0} → (A → List ℕ) → Result A Refusal → List ℕ
+outcome_text text (Ok x) = text x
+outcome_text text (Err e) = refusal_text e
 
-abbrev pub result_text : Result Scalar Refusal → List ℕ
-result_text (Ok x) = triple_text (triple_of x)
-result_text (Err e) = codes "refused " ++ decimal (number_of e)
-
--- i j ε p m, or i j refused 23
-abbrev pub overlap_text : OverlapLine → List ℕ
-overlap_text l = decimal l.i ++ (codes " " ++ (decimal l.j ++ (codes " " ++ result_text l.overlap)))
+-- i j, and what is said of the two: ε p m residue quad mark in a listing and ε p m in a description, or refused 23
+abbrev pub line_text : {A : Type 0} → (A → List ℕ) → Line A → List ℕ
+line_text text l = decimal l.i ++ (codes " " ++ (decimal l.j ++ (codes " " ++ outcome_text text l.outcome)))

@@ -1,6 +1,10 @@
+ghost use Rattle.std.specs.Prelude.{Some};
+ghost use Rattle.listing.specs.Texts.{comparison_text};
+
 use crate::columns::Columns;
-use cyclotomic::refusal::Refusal;
+use crate::text::ColumnsText;
 use cyclotomic::scalar::Scalar;
+use std::fmt;
 
 // What the listing says of two states with the same number of qubits.
 #[derive(Clone, Copy)]
@@ -12,17 +16,11 @@ pub struct Comparison {
     pub equal: bool,
 }
 
-// What the listing says of two states.
-#[derive(Clone, Copy)]
-pub enum Outcome {
-    Refused(Refusal),
-    Compared(Comparison),
-}
+impl fmt::Display for Comparison {
+    ghost output = { λ x. Some (comparison_text x) };
 
-// A line of the listing: the numbers of two states, and what it says of them.
-#[derive(Clone, Copy)]
-pub struct PairLine {
-    pub i: u64,
-    pub j: u64,
-    pub outcome: Outcome,
+    fn fmt<W: fmt::Write>(&self, f: &mut fmt::Formatter<W>) -> fmt::Result {
+        let mark = if self.equal { "=" } else { "." };
+        write!(f, "{} {} {mark}", self.overlap, ColumnsText(self.columns))
+    }
 }

@@ -8,7 +8,9 @@ use std::fmt;
 
 // The small hexadecimal digit of a number below 16, and of any other number its last digit.
 pub fn glyph(digit: u8) -> u8
-    ensures { ((digit < 16 → result ≡ glyph_of digit)) × ((result < 128) × (result ≡ glyph_of (digit % 16))) }
+    ensures digit { digit < 16 → result ≡ glyph_of digit }
+    ensures ascii { result < 128 }
+    ensures last { result ≡ glyph_of (digit % 16) }
 {
     match digit % 16 {
         d if d < 10 => b'0' + d,
@@ -18,23 +20,14 @@ pub fn glyph(digit: u8) -> u8
 
 // The number that a hexadecimal digit stands for.
 pub fn nibble(digit: u8) -> Option<u8>
-    ensures { (result ≡ nibble_of digit) × IfSome result (λ d. d < 16) }
+    ensures value { result ≡ nibble_of digit }
+    ensures small { IfSome result (λ d. d < 16) }
 {
     match digit {
         b'0'..=b'9' => Some(digit - b'0'),
         b'a'..=b'f' => Some(digit - b'a' + 10),
         b'A'..=b'F' => Some(digit - b'A' + 10),
         _ => None,
-    }
-}
-
-// The same, and 0 for what is no digit.
-fn nibble_or_zero(digit: u8) -> u8
-    ensures { (result ≡ unwrap_or (nibble_of digit) 0) × (result < 16) }
-{
-    match nibble(digit) {
-        Some(value) => value,
-        None => 0,
     }
 }
 
@@ -63,9 +56,9 @@ impl<'a> Hex<'a> {
         ensures { OnOk result (Decoded self.entry.digits.now out.new.items) }
     {
         out.clear();
-        for i in 0..self.digits.len() / 2 {
-            let high = nibble_or_zero(self.digits[2 * i]);
-            let low = nibble_or_zero(self.digits[2 * i + 1]);
+        for pair in self.digits.chunks_exact(2) {
+            let high = nibble(pair[0]).unwrap_or(0);
+            let low = nibble(pair[1]).unwrap_or(0);
             out.push(16 * high + low)?;
         }
         Ok(())
@@ -76,12 +69,7 @@ impl<'a> Hex<'a> {
 fn all_digits(word: &[u8]) -> bool
     ensures { MatchBool result (Digits word.now) (Digits word.now → ⊥) }
 {
-    for byte in word {
-        if nibble(*byte).is_none() {
-            return false;
-        }
-    }
-    true
+    word.iter().all(|byte| nibble(*byte).is_some())
 }
 
 // Bytes as they are printed: pairs of small hexadecimal digits, `-` for none.
@@ -95,19 +83,11 @@ impl fmt::Display for HexBytes<'_> {
         if self.0.is_empty() {
             return f.write_str("-");
         }
-        for byte in self.0 {
-            write_byte(f, *byte)?;
+        for &byte in self.0 {
+            write!(f, "{byte:02x}")?;
         }
         Ok(())
     }
-}
-
-// Writes a byte as a pair of digits.
-fn write_byte<W: fmt::Write>(f: &mut fmt::Formatter<W>, byte: u8) -> fmt::Result
-    ensures { WritesOnOk W.Write.write_str_gives f.old result (byte_text byte) f.new }
-{
-    let digits = [glyph(byte / 16), glyph(byte % 16)];
-    write_ascii(f, &digits)
 }
 
 // Writes text that is given as bytes.

@@ -6,7 +6,7 @@ pub mod comparison;
 pub mod description;
 pub mod fields;
 pub mod hex;
-pub mod overlap_line;
+pub mod line;
 pub mod pair;
 mod pairs;
 pub mod sheets;

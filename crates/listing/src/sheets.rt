@@ -1,11 +1,12 @@
-ghost use Rattle.std.specs.Prelude.{◌≡◌, length, None, IfSome, IfErr, MatchOption, OnOk};
+ghost use Rattle.std.specs.Prelude.{◌≡◌, ℕ, List, None, IfSome, IfErr, MatchOption, OnOk};
 ghost use Rattle.std.specs.Io.KnownBytes.{Appends};
 ghost use Rattle.std.specs.IoError.{error_kind};
 ghost use Rattle.archive.specs.Loads.{fault_of};
-ghost use Rattle.listing.specs.Listings.{line_of_fault, Lists, ListsStates, sheets_text};
+ghost use Rattle.stabilizer.specs.declared.state.StabilizerState.{StabilizerState};
+ghost use Rattle.listing.specs.Listings.{line_of_fault, ListsStates, Reports, sheets_text};
 ghost use Rattle.listing.specs.Written.{Writes};
 
-use crate::comparison::PairLine;
+use crate::comparison::Comparison;
 use crate::pairs::write_pairs;
 use archive::fault::Report;
 use archive::load::{LoadError, load};
@@ -14,33 +15,47 @@ use std::alloc::Global;
 use std::io;
 use std::io::{ErrorKind, Read, Write};
 
-// Reads an archive to its end, and writes its listing.
-pub fn list<R: Read, O: Write>(heap: Global, input: &mut R, out: &mut O) -> io::Result<()>
-    ensures { OnOk result (IfSome (R.remaining input.old) (λ archive.
-        Writes (Lists archive) (O.contents out.old) (O.contents out.new))) }
-{
-    let mut archive = Vec::new(heap);
-    input.read_to_end(&mut archive)?;
-    write_listing(heap, out, &archive)?;
-    out.flush()
-}
+// A document on an archive: a listing or a description.
+pub trait Document {
+    // what the text says of the states
+    ghost tells: { List StabilizerState → List ℕ → Type 0 };
 
-// Writes the listing of an archive: a line for each pair of its states, or the line of its fault.
-pub fn write_listing<O: Write>(heap: Global, out: &mut O, archive: &[u8]) -> io::Result<()>
-    ensures { OnOk result (Writes (Lists archive.now) (O.contents out.old) (O.contents out.new)) }
-{
-    match load(heap, archive) {
-        Ok(states) => write_sheets(out, &states),
-        Err(error) => write_load_error(out, error),
+    // Writes what the document says of states.
+    fn write_states<O: Write>(out: &mut O, states: &[StabilizerState]) -> io::Result<()>
+        ensures { OnOk result (Writes (tells states.now) (O.contents out.old) (O.contents out.new)) };
+
+    // Writes the document on an archive: what it says of the states, or the line of the fault.
+    final fn write<O: Write>(heap: Global, out: &mut O, archive: &[u8]) -> io::Result<()>
+        ensures { OnOk result (Writes (Reports tells archive.now) (O.contents out.old) (O.contents out.new)) }
+    {
+        match load(heap, archive) {
+            Ok(states) => Self::write_states(out, &states),
+            Err(error) => write_load_error(out, error),
+        }
+    }
+
+    // Reads an archive to its end, and writes the document on it.
+    final fn render<R: Read, O: Write>(heap: Global, input: &mut R, out: &mut O) -> io::Result<()>
+        ensures { OnOk result (IfSome (R.remaining input.old) (λ archive.
+            Writes (Reports tells archive) (O.contents out.old) (O.contents out.new))) }
+    {
+        let mut archive = Vec::new(heap);
+        input.read_to_end(&mut archive)?;
+        Self::write(heap, out, &archive)?;
+        out.flush()
     }
 }
 
-// Writes the listing of states.
-fn write_sheets<O: Write>(out: &mut O, states: &[StabilizerState]) -> io::Result<()>
-    ensures { OnOk result (Writes (ListsStates states.now) (O.contents out.old) (O.contents out.new)) }
-{
-    write_count(out, states.len())?;
-    write_pairs::<PairLine, O>(out, states)
+// The listing of an archive: how many states there are, and a line for each pair.
+pub struct Listing;
+
+impl Document for Listing {
+    ghost tells = { ListsStates };
+
+    fn write_states<O: Write>(out: &mut O, states: &[StabilizerState]) -> io::Result<()> {
+        write_count(out, states.len())?;
+        write_pairs::<Comparison, O>(out, states)
+    }
 }
 
 // Writes the line that says how many states there are.

@@ -1,7 +1,7 @@
-ghost use Rattle.std.specs.Prelude.{◌≡◌, ℕ, ◌+◌, ◌-◌, ◌<◌, ◌≤◌, IfSome, Some, min, nat_lt, slice_index};
+ghost use Rattle.std.specs.Prelude.{◌≡◌, ℕ, ◌+◌, ◌-◌, ◌<◌, ◌≤◌, IfSome, List, Some, min, nat_lt, slice_index};
 ghost use Rattle.std.specs.Fmt.{WritesOnOk};
 ghost use Rattle.quadratic.specs.Bits.{bit};
-ghost use Rattle.listing.specs.Fields.{behind, bits_text, couplings_of, coupling_texts, dimension_of, following, joined, linear_text, row_text, space_text, up_to};
+ghost use Rattle.listing.specs.Fields.{behind, bits_text, coupling_texts, dimension_of, following, joined, linear_text, row_text, Shows, space_text, up_to};
 
 use crate::hex::write_ascii;
 use quadratic::phased::PhasedSpace;
@@ -59,8 +59,8 @@ fn bits_of(string: u64) -> [u8; LONGEST]
     ensures { (k : ℕ) → k < 48 → slice_index result k ≡ 48 + bit string (47 - k) }
 {
     let mut bits = [0; LONGEST];
-    for i in 0..LONGEST {
-        bits[i] = b'0' + (string >> (LONGEST - 1 - i) & 1) as u8;
+    for (i, digit) in bits.iter_mut().enumerate() {
+        *digit = b'0' + (string >> (LONGEST - 1 - i) & 1) as u8;
     }
     bits
 }
@@ -76,17 +76,16 @@ impl fmt::Display for RowsText<'_> {
     ghost output = { λ x. Some (joined (up_to (row_text (min x.qubits 48) x.space.now) (dimension_of x.space.now))) };
 
     fn fmt<W: fmt::Write>(&self, f: &mut fmt::Formatter<W>) -> fmt::Result {
-        if self.space.dimension() == 0 {
-            return f.write_str("-");
-        }
-        for a in 0..self.space.dimension() {
-            let row = BitsText {
-                string: self.space.row(a + 1).unwrap_or(0),
-                length: self.qubits,
-            };
-            write_item(f, a > 0, row)?;
-        }
-        Ok(())
+        let space = self.space;
+        let length = self.qubits;
+        write_joined(
+            f,
+            space.dimension(),
+            |a| BitsText {
+                string: space.row(a).unwrap_or(0),
+                length,
+            },
+        )
     }
 }
 
@@ -98,13 +97,8 @@ impl fmt::Display for LinearText<'_> {
     ghost output = { λ x. Some (joined (up_to (linear_text x.0.now) (dimension_of x.0.now))) };
 
     fn fmt<W: fmt::Write>(&self, f: &mut fmt::Formatter<W>) -> fmt::Result {
-        if self.0.dimension() == 0 {
-            return f.write_str("-");
-        }
-        for a in 0..self.0.dimension() {
-            write_item(f, a > 0, self.0.linear(a + 1).unwrap_or(0))?;
-        }
-        Ok(())
+        let space = self.0;
+        write_joined(f, space.dimension(), |a| space.linear(a).unwrap_or(0))
     }
 }
 
@@ -119,26 +113,46 @@ impl fmt::Display for CouplingsText<'_> {
         if self.0.dimension() < 2 {
             return f.write_str("-");
         }
-        for a in 0..self.0.dimension() {
-            write_couplings_of(f, self.0, a + 1)?;
+        let space = self.0;
+        let dimension = space.dimension();
+        for a in 0..dimension {
+            write_items(f, a > 0, dimension - (a + 1), |b| {
+                space.coupling(a + 1, a + 1 + b).unwrap_or(0)
+            })?;
         }
         Ok(())
     }
 }
 
-// Writes the couplings of row a with the rows after it.
-fn write_couplings_of<W: fmt::Write>(
+// Writes the items 1 to count, joined by commas; `-` stands for none.
+fn write_joined<W: fmt::Write, D: fmt::Display + Drop, F: Fn(u64) -> D>(
     f: &mut fmt::Formatter<W>,
-    space: &PhasedSpace,
-    a: u64,
+    count: u64,
+    item: F,
 ) -> fmt::Result
-    requires { (1 ≤ a) × (a ≤ dimension_of space.now) }
-    ensures { WritesOnOk W.Write.write_str_gives f.old result
-        (following (nat_lt 1 a) (couplings_of space.now a (dimension_of space.now - a))) f.new }
+    requires { (a : ℕ) → a ≤ count → F.pre item a }
+    ensures { (text : ℕ → List ℕ) → Shows count D.output (F.post item) text
+        → WritesOnOk W.Write.write_str_gives f.old result (joined (up_to text count)) f.new }
 {
-    for b in a..space.dimension() {
-        let coupling = space.coupling(a, b + 1).unwrap_or(0);
-        write_item(f, b > 1, coupling)?;
+    if count == 0 {
+        return f.write_str("-");
+    }
+    write_items(f, false, count, item)
+}
+
+// Writes the items 1 to count, each behind a comma, the first only if others are before it.
+fn write_items<W: fmt::Write, D: fmt::Display + Drop, F: Fn(u64) -> D>(
+    f: &mut fmt::Formatter<W>,
+    others: bool,
+    count: u64,
+    item: F,
+) -> fmt::Result
+    requires { (a : ℕ) → a ≤ count → F.pre item a }
+    ensures { (text : ℕ → List ℕ) → Shows count D.output (F.post item) text
+        → WritesOnOk W.Write.write_str_gives f.old result (following others (up_to text count)) f.new }
+{
+    for a in 0..count {
+        write_item(f, others || a > 0, item(a + 1))?;
     }
     Ok(())
 }

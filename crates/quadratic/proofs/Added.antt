@@ -1,5 +1,5 @@
 -- A fresh running sum that is handed one intersection again and again.
-use Rattle.std.proofs.Common.{◌≡◌, ℕ, ◌+◌, ◌<◌, ◌≤◌, Bool, true, false, cond, nat_lt, nat_le, refl, ap, sym, ◌∙◌, pow_mono, ◌-◌, ◌^◌, arith}
+use Rattle.std.proofs.Common.{◌≡◌, ℕ, ◌<◌, ◌≤◌, refl, ap, sym, ◌∙◌, pow_mono, ◌-◌, ◌^◌, arith}
 use lib.Count.{ones-le}
 use Rattle.cyclotomic.specs.Refusals.{number_of}
 use Rattle.cyclotomic.specs.Ring.{Ops, RingLaws}
@@ -12,7 +12,7 @@ use Rattle.quadratic.specs.Meets.{strings_in}
 use Rattle.quadratic.specs.Running.{add_number, added_count, term_in}
 use Rattle.quadratic.specs.Sums.{total, IsSum}
 use Rattle.quadratic.specs.declared.intersection.Intersection.{Intersection}
-use Rattle.quadratic.specs.declared.intersection.Intersection.TheVariants.{Empty, Space}
+use Rattle.quadratic.proofs.Cases.{by_space}
 use Rattle.quadratic.proofs.Closed.{closed}
 
 -- the sum holds the strings that were added so far, which are as many as the calls
@@ -47,8 +47,7 @@ room count x e = grind (arith, e)
 
 -- every string's power of w together is the sum over all strings
 pub all-added : {R : Type 0} (o : Ops R) (x : Intersection) → sum_to o (term_in o x) (strings_in x) ≡ total o x
-all-added o Empty = refl
-all-added o (Space s) = refl
+all-added o = by_space (λ x. sum_to o (term_in o x) (strings_in x) ≡ total o x) refl (λ s. refl)
 
 -- once as many strings are added as there are, the value is the exponential sum in the ring
 pub closes : {R : Type 0} {o : Ops R} (laws : RingLaws o) (x : Intersection) (e : Scalar) (value : R) (count calls : ℕ)
@@ -59,8 +58,9 @@ closes {o} laws x e value count calls c h l =
 
 -- no intersection has more strings than there are calls in 64 bits
 pub few : (x : Intersection) → strings_in x ≤ 2 ^ 64 - 1
-few Empty = omega arith
-few (Space s) = let l = pow_mono (ones-le 48 s.space.pivots s.space.within) in omega (arith, l)
+few =
+    by_space (λ x. strings_in x ≤ 2 ^ 64 - 1) (omega arith)
+    (λ s. let l = pow_mono (ones-le 48 s.space.pivots s.space.within) in omega (arith, l))
 
 pub counted-all : (times : ℕ) (x : Intersection) → strings_in x ≤ times → added_count times x ≡ strings_in x
 counted-all times x l = grind (arith, l)

@@ -11,10 +11,9 @@ use Rattle.cyclotomic.proofs.Sums
 use Rattle.quadratic.specs.Bits.{bit, dot}
 use Rattle.quadratic.specs.Quadratic.{coef, link}
 use Rattle.quadratic.specs.Numbering.{spread}
-use Rattle.quadratic.specs.Sums.{over, form_power, left_of, total, Reduced, Stepped}
+use Rattle.quadratic.specs.Sums.{over, form_power, left_of, sum_over, Reduced, Stepped}
 use Rattle.quadratic.specs.Value.{value_at}
 use Rattle.quadratic.specs.declared.form.QuadraticForm.{QuadraticForm}
-use Rattle.quadratic.specs.declared.intersection.Intersection.TheVariants.{Space}
 use Rattle.quadratic.specs.declared.phased.PhasedSpace.{PhasedSpace}
 use Rattle.quadratic.proofs.Bitlaws.{digit₂, bit-lt, not-both, ones_low}
 use Rattle.quadratic.proofs.Clear.{slope-at}
@@ -128,12 +127,12 @@ ended f live power z =
 
 -- the sum over all strings, by their numbers, in any ring
 pub over-total : {R : Type 0} {o : Ops R} (laws : CommLaws o) (s : PhasedSpace) → over o (form_power o s.form) s.space.pivots 48 0
-    ≡ total o (Space s)
+    ≡ sum_over o s
 over-total {o = o} laws s =
     let P = s.space.pivots in
     over-numbered laws (form_power o s.form) P 48 0
     ∙ ap (sum_to o _) (ap (λ n. 2 ^ n) (sym (ones_low 48 P) ∙ ap ones (mod-eq_of_lt s.space.within)))
     ∙ Sums.sum_same laws _ _ (2 ^ ones P) (λ c l. ap (form_power o s.form) (xor_zero_l (spread 48 P c)))
 
-pub numbered : (s : PhasedSpace) → left_of omegas s.form s.space.pivots 0 ≡ total omegas (Space s)
+pub numbered : (s : PhasedSpace) → left_of omegas s.form s.space.pivots 0 ≡ sum_over omegas s
 numbered s = CommFacts.one_times omega-laws.comm _ ∙ over-total omega-laws.comm s

@@ -25,6 +25,7 @@ pub mod Over
 pub mod Summing
 pub mod Eliminate
 pub mod Same
+pub mod Cases
 pub mod Closed
 pub mod Distinct
 pub mod Subset

@@ -1,5 +1,5 @@
 -- From masks and tables to the functions of Algebra.
-use Rattle.std.proofs.Common.{◌≡◌, ℕ, ◌+◌, ◌*◌, ◌/◌, ◌%◌, ◌^◌, ◌<◌, ◌≤◌, List, get_or, sym, refl, ap, ◌∙◌, ap₂, lt_of_lt_of_le, add-zero, mul_assoc, mul_comm, add-mul, one-mul, zero-mul, arith, pow_pos, pow_mono}
+use Rattle.std.proofs.Common.{◌≡◌, ℕ, ◌+◌, ◌*◌, ◌/◌, ◌%◌, ◌^◌, ◌<◌, List, get_or, sym, refl, ap, ◌∙◌, ap₂, add-zero, mul_assoc, mul_comm, add-mul, one-mul, zero-mul, arith, pow_pos}
 use native.Mathlib.Nat.{mul-add-mod_self_left, mod-mod}
 use lib.Bits.{bit_and, bit_xor, xor_lt}
 use Rattle.quadratic.specs.Bits.{bit, dot, inner, RowsXor}

@@ -1,10 +1,8 @@
 -- Two forms of one dimension with the same values are the same.
-use Rattle.std.proofs.Common.{◌≡◌, ℕ, ◌+◌, ◌*◌, ◌%◌, ◌^◌, ◌<◌, ◌≤◌, get_or, sym, ap, ◌∙◌, ap₂, mod-eq_of_lt, arith}
-use mathlib.Core.Path.{fun_ext}
+use Rattle.std.proofs.Common.{◌≡◌, ℕ, ◌+◌, ◌*◌, ◌%◌, ◌^◌, ◌<◌, ◌≤◌, get_or, sym, ap, ◌∙◌, mod-eq_of_lt, arith}
 use native.Mathlib.Decide.{dec_lt}
-use Rattle.quadratic.proofs.Dots.{by_bits}
 use Rattle.quadratic.specs.Bits.{bit}
-use Rattle.quadratic.specs.Quadratic.{quad, coef, link}
+use Rattle.quadratic.specs.Quadratic.{coef, link}
 use Rattle.quadratic.specs.Value.{value_at}
 use Rattle.quadratic.specs.declared.form.QuadraticForm.{QuadraticForm}
 use Rattle.quadratic.proofs.Bitlaws.{digit₂, bit-lt, bit_past, same_bits}
@@ -64,21 +62,3 @@ module _ (f g : QuadraticForm) (h : (c : ℕ) → c < 2 ^ 48 → value_at f c �
     negs = same_bits 48 f.neg g.neg f.negs g.negs (λ k l. (parts k l).1);
     rows = λ a. same_bits 48 (get_or f.coupling a 0) (get_or g.coupling a 0) (f.inside a) (g.inside a) (λ b l. link-same a b l);
   }
-
--- and the other way round
-pub equal-values : (f g : QuadraticForm) → Equal f g → (c : ℕ) → value_at f c ≡ value_at g c
-unfolding value_at
-equal-values f g q c =
-    ap (λ p. quad p (coef f.odd f.neg) (link f.coupling) (bit c) 48 % 8) q.phases
-    ∙ ap₂ (λ o n. quad g.phase (coef o n) (link f.coupling) (bit c) 48 % 8) q.odds q.negs
-    ∙ ap (λ J. quad g.phase (coef g.odd g.neg) J (bit c) 48 % 8) (fun_ext (λ a. fun_ext (λ b. ap (λ r. bit r b) (q.rows a))))
-
--- rows past 48 are empty
-pub rows-48 : (f g : QuadraticForm) → ((a : ℕ) → a < 48 → get_or f.coupling a 0 ≡ get_or g.coupling a 0)
-    → (a : ℕ) → get_or f.coupling a 0 ≡ get_or g.coupling a 0
-rows-48 f g h a =
-    elim (dec_lt a 48) [
-      | yes l ↦ h a l
-      | no l ↦ by_bits (get_or f.coupling a 0) (get_or g.coupling a 0)
-          (λ b. past_row f a b (omega arith) ∙ sym (past_row g a b (omega arith)))
-    ]

@@ -1,10 +1,10 @@
 -- What adding a string to a running sum does.
 use Rattle.std.specs.Prelude.{ℕ, cond, nat_le, nat_lt}
+use Rattle.std.specs.Option.{option_map_or}
 use Rattle.cyclotomic.specs.Ring.{Ops}
 use Rattle.quadratic.specs.Meets.{strings_in}
 use Rattle.quadratic.specs.Sums.{term_at}
 use Rattle.quadratic.specs.declared.intersection.Intersection.{Intersection}
-use Rattle.quadratic.specs.declared.intersection.Intersection.TheVariants.{Empty, Space}
 
 -- refused with 24 once every string has been added, and at once where there is none
 abbrev pub add_number : ℕ → Intersection → ℕ
@@ -20,5 +20,4 @@ last_number times x = cond (nat_le times (strings_in x)) 0 24
 
 -- w to the power of the form's value at the string numbered by c
 abbrev pub term_in : {R : Type 0} → Ops R → Intersection → ℕ → R
-term_in o Empty c = o.nil
-term_in o (Space s) c = term_at o s c
+term_in o x c = option_map_or (λ s. term_at o s c) x.space o.nil

@@ -1,7 +1,7 @@
 -- The strings of a space, and what an operation does to them.
 use Rattle.std.specs.Prelude.{◌≡◌, ℕ, suc, ◌+◌, ◌*◌, ◌^◌, ◌<◌, ◌≤◌, Bool, true, false, ◌⊎◌, Some, None, Option, ◌≢◌, bit_and, bit_xor, count_ones}
-use Rattle.quadratic.specs.Bits.{bit, dot, sum}
-use Rattle.quadratic.specs.Echelon.{row, combination, reduced}
+use Rattle.quadratic.specs.Bits.{bit, dot}
+use Rattle.quadratic.specs.Echelon.{row, combination}
 use Rattle.quadratic.specs.declared.affine.AffineSpace.{AffineSpace}
 use Rattle.quadratic.specs.declared.affine.Outcome.{Outcome}
 use Rattle.quadratic.specs.declared.affine.Outcome.TheVariants.{Unchanged, Empty, Restricted}

@@ -1,5 +1,6 @@
 -- Sums of powers of w over the strings of a space, and what is left of one while variables are summed out.
-use Rattle.std.specs.Prelude.{◌≡◌, ℕ, zero, suc, ◌+◌, ◌*◌, ◌%◌, ◌^◌, ◌<◌, ◌≤◌, Bool, true, false, cond, pos, Some, None, Option, ◌==◌, bit_xor, count_ones}
+use Rattle.std.specs.Prelude.{◌≡◌, ℕ, zero, suc, ◌+◌, ◌*◌, ◌%◌, ◌^◌, ◌<◌, ◌≤◌, Bool, true, false, cond, pos, Some, None, Option, MatchOption, ◌==◌, bit_xor, count_ones}
+use Rattle.std.specs.Option.{option_map_or}
 use Rattle.cyclotomic.specs.Adjoin.{omegas}
 use Rattle.cyclotomic.specs.Ring.{Ops, wpow, rpow, exact}
 use Rattle.cyclotomic.specs.Scalars.{triple_of, nought, embedded}
@@ -11,7 +12,6 @@ use Rattle.quadratic.specs.Value.{value_at}
 use Rattle.quadratic.specs.declared.form.QuadraticForm.{QuadraticForm}
 use Rattle.quadratic.specs.declared.phased.PhasedSpace.{PhasedSpace}
 use Rattle.quadratic.specs.declared.intersection.Intersection.{Intersection}
-use Rattle.quadratic.specs.declared.intersection.Intersection.TheVariants.{Empty, Space}
 
 -- w to the power of the form's value at the string numbered by c
 abbrev pub term_at : {R : Type 0} → Ops R → PhasedSpace → ℕ → R
@@ -22,23 +22,25 @@ abbrev pub term_of : {R : Type 0} → Ops R → Option ℕ → R
 term_of o (Some m) = wpow o m
 term_of o None = o.nil
 
+-- the sum over the strings of a space, in a ring
+abbrev pub sum_over : {R : Type 0} → Ops R → PhasedSpace → R
+sum_over o s = sum_to o (term_at o s) (2 ^ count_ones s.space.pivots)
+
 -- the sum over all strings, in a ring
 abbrev pub total : {R : Type 0} → Ops R → Intersection → R
-total o Empty = o.nil
-total o (Space s) = sum_to o (term_at o s) (2 ^ count_ones s.space.pivots)
+total o x = option_map_or (sum_over o) x.space o.nil
 
 -- zero, or 2^(p/2) ω^m with d ≤ p ≤ 2 d
 abbrev pub Between : ℕ → Scalar → Type 0
-Between d x = x.epsilon ≡ 1 → (p : ℕ) × (x.power ≡ pos p) × (d ≤ p) × (p ≤ 2 * d)
+Between d x = (triple_of x).0 ≡ 1 → (p : ℕ) × ((triple_of x).1 ≡ pos p) × (d ≤ p) × (p ≤ 2 * d)
 
 abbrev pub Bounded : Intersection → Scalar → Type 0
-Bounded Empty x = triple_of x ≡ nought
-Bounded (Space s) x = Between (count_ones s.space.pivots) x
+Bounded i x = MatchOption i.space (triple_of x ≡ nought) (λ s. Between (count_ones s.space.pivots) x)
 
 -- x is 0 exactly where the sum over all strings is
 pub record Vanishing (i : Intersection) (x : Scalar) : Type 0 where
-  pub vanishes : x.epsilon ≡ 0 → total omegas i ≡ omegas.nil
-  pub only : total omegas i ≡ omegas.nil → x.epsilon ≡ 0
+  pub vanishes : (triple_of x).0 ≡ 0 → total omegas i ≡ omegas.nil
+  pub only : total omegas i ≡ omegas.nil → (triple_of x).0 ≡ 0
 
 -- x is the exponential sum
 pub record IsSum (i : Intersection) (x : Scalar) : Type 0 where

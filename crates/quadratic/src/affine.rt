@@ -6,7 +6,7 @@ mod ops;
 
 // An affine space of strings of 48 bits, in reduced echelon form by position: row p begins at bit p, and no other row has that
 // bit, nor has the shift.
-#[derive(Clone, Copy)]
+#[derive(Clone, Copy, PartialEq, Eq)]
 pub struct AffineSpace {
     pivots: u64,
     rows: [u64; 48],

@@ -6,7 +6,7 @@ mod moves;
 mod ops;
 
 // A quadratic form of 48 variables with values in Z8.
-#[derive(Clone, Copy)]
+#[derive(Clone, Copy, PartialEq, Eq)]
 pub struct QuadraticForm {
     phase: u8,
     odd: u64,

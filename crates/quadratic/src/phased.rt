@@ -8,7 +8,7 @@ mod moves;
 mod ops;
 
 // A space with a phase at each of its strings. The form sees the pivots alone.
-#[derive(Clone, Copy)]
+#[derive(Clone, Copy, PartialEq, Eq)]
 pub struct PhasedSpace {
     space: AffineSpace,
     form: QuadraticForm,

@@ -2,7 +2,7 @@ ghost use Rattle.std.specs.Prelude.{◌≡◌, ℕ, ◌+◌, ◌*◌, ◌^◌, �
 ghost use Rattle.cyclotomic.specs.Adjoin.{omegas};
 ghost use Rattle.cyclotomic.specs.Scalars.{triple_of, embedded};
 ghost use Rattle.quadratic.specs.Bits.{bit as digit};
-ghost use Rattle.quadratic.specs.Sums.{Bounded, Between, Vanishing, total, left_of, Reduced, StepTo, Finished};
+ghost use Rattle.quadratic.specs.Sums.{Bounded, Between, Vanishing, sum_over, total, Reduced, StepTo, Finished};
 
 use crate::bits::{lowest, turned};
 use crate::form::QuadraticForm;
@@ -16,16 +16,14 @@ pub fn exponential_sum(x: &Intersection) -> Scalar
     ensures exact { embedded omegas (triple_of result) ≡ total omegas x.now }
     ensures zero { Vanishing x.now result }
 {
-    match x {
-        Intersection::Empty => Scalar::zero(),
-        Intersection::Space(s) => sum_of(s),
-    }
+    x.space.as_ref().map_or(Scalar::zero(), sum_of)
 }
 
 // The sum of ω^value over all strings of a space: the variables are summed out one or two at a time.
+#[tactic(auto, using(crate::proofs::Eliminate::numbered))]
 fn sum_of(s: &PhasedSpace) -> Scalar
     ensures bounds { Between (count_ones s.now.space.pivots) result }
-    ensures exact { embedded omegas (triple_of result) ≡ left_of omegas s.now.form s.now.space.pivots 0 }
+    ensures exact { embedded omegas (triple_of result) ≡ sum_over omegas s.now }
 {
     let mut sum = Remaining {
         form: s.form(),

@@ -1,5 +1,5 @@
 -- What two states of one size have in common.
-use Rattle.std.specs.Prelude.{◌≡◌, ℕ, zero, suc, ◌+◌, ◌≤◌, cond, ℤ, pos, ◌+ℤ◌, neg_ℤ, None, Ok, Err, Option, Result, ◌==◌, count_ones}
+use Rattle.std.specs.Prelude.{◌≡◌, ℕ, zero, suc, ◌+◌, ◌≤◌, cond, ℤ, pos, ◌+ℤ◌, neg_ℤ, Ok, Err, Option, Result, IfSome, option_and_then, ◌==◌, count_ones}
 use Rattle.cyclotomic.specs.Adjoin.{omegas}
 use Rattle.cyclotomic.specs.Exact.{scaled, mirrored}
 use Rattle.cyclotomic.specs.Scalars.{Triple, triple_of, nought, Kind, embedded}
@@ -8,7 +8,6 @@ use Rattle.cyclotomic.specs.declared.scalar.Scalar.{Scalar}
 use Rattle.quadratic.specs.Phase.{phase, less}
 use Rattle.quadratic.specs.Sums.{total}
 use Rattle.quadratic.specs.declared.intersection.Intersection.{Intersection}
-use Rattle.quadratic.specs.declared.intersection.Intersection.TheVariants.{Empty, Space}
 use Rattle.stabilizer.specs.Vectors.{entry, inner}
 use Rattle.stabilizer.specs.declared.state.StabilizerState.{StabilizerState}
 
@@ -17,8 +16,7 @@ abbrev pub sizes_number : StabilizerState → StabilizerState → ℕ
 sizes_number t s = cond (t.qubits == s.qubits) 0 23
 
 abbrev pub phase_inside : Intersection → ℕ → Option ℕ
-phase_inside Empty y = None
-phase_inside (Space m) y = phase m y
+phase_inside x y = option_and_then (λ m. phase m y) x.space
 
 -- the strings in both spaces, each with the phase of s less that of t
 abbrev pub Intersects : Intersection → StabilizerState → StabilizerState → Type 0
@@ -26,8 +24,8 @@ Intersects x t s = (y : ℕ) → phase_inside x y ≡ less (phase s.body y) (pha
 
 -- among strings of n bits, the dimension is at least the sum of both less n
 abbrev pub Roomy : Intersection → StabilizerState → StabilizerState → Type 0
-Roomy Empty t s = Unit {0}
-Roomy (Space m) t s = count_ones t.body.space.pivots + count_ones s.body.space.pivots ≤ count_ones m.space.pivots + s.qubits
+Roomy x t s =
+    IfSome x.space (λ m. count_ones t.body.space.pivots + count_ones s.body.space.pivots ≤ count_ones m.space.pivots + s.qubits)
 
 -- the weight and the dimension of a state, taken from its amplitudes' power
 abbrev pub depth : StabilizerState → ℕ
@@ -58,8 +56,8 @@ pub record Overlaps (x : Scalar) (t s : StabilizerState) : Type 0 where
   pub is : IsOverlap t s (triple_of x)
   -- the overlap of s and t is the conjugate
   pub swapped : IsOverlap s t (mirrored (triple_of x))
-  pub vanishes : x.epsilon ≡ 0 → Orthogonal t s
-  pub orthogonal : Orthogonal t s → x.epsilon ≡ 0
+  pub vanishes : (triple_of x).0 ≡ 0 → Orthogonal t s
+  pub orthogonal : Orthogonal t s → (triple_of x).0 ≡ 0
   pub both : Intersection
   pub shared : Intersects both t s
   pub sum : Scalar

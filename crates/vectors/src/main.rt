@@ -3,7 +3,7 @@
 #![tactic(auto)]
 
 use listing::hex::Hex;
-use listing::sheets::write_listing;
+use listing::sheets::{Document, Listing};
 use std::io;
 use std::io::{BufRead, BufReader, BufWriter, Write};
 use worked::worked_examples;
@@ -14,27 +14,20 @@ fn main(rt: HostRuntime) -> io::Result<()> {
     let mut out = BufWriter::new(rt.alloc(), rt.stdout())?;
     let mut line = Vec::new(rt.alloc());
     let mut archive = Vec::new(rt.alloc());
+    // a count, since no contract says that standard input has an end
     for _ in 0..u64::MAX {
         line.clear();
         if input.read_until(b'\n', &mut line)? == 0 {
             break;
         }
-        match Hex::new(without_break(&line)) {
+        match Hex::new(line.strip_suffix(b"\n").unwrap_or(&line)) {
             Some(digits) => {
                 digits.decode(&mut archive)?;
-                write_listing(rt.alloc(), &mut out, &archive)?;
+                Listing::write(rt.alloc(), &mut out, &archive)?;
             }
             None => out.write_all(b"? pairs of hexadecimal digits are wanted, or - for none\n")?,
         }
         out.write_all(b"\n")?;
     }
     out.flush()
-}
-
-// The line without its line break.
-fn without_break(line: &[u8]) -> &[u8] {
-    match line {
-        [text @ .., b'\n'] => text,
-        text => text,
-    }
 }

@@ -13,7 +13,7 @@ use Rattle.quadratic.specs.Numbering.{spread}
 use Rattle.quadratic.specs.Sums.{Bounded, total, term_at}
 use Rattle.quadratic.specs.Value.{value_at}
 use Rattle.quadratic.specs.declared.intersection.Intersection.{Intersection}
-use Rattle.quadratic.specs.declared.intersection.Intersection.TheVariants.{Empty, Space}
+use Rattle.quadratic.proofs.Cases.{by_space}
 use Rattle.quadratic.specs.declared.phased.PhasedSpace.{PhasedSpace}
 use Rattle.archive.proofs.Coefficients.{value-zero, value-one, value-two}
 use Rattle.quadratic.specs.Sums.{IsSum}
@@ -52,22 +52,28 @@ four-terms o a b c d = o.plus (o.plus (two-terms o a b) (wpow o c)) (wpow o d)
 
 module _ {R : Type 0} (o : Ops R) where
   pub total-point : (x : Intersection) (Q : ℕ) → NoVariable x Q → total o x ≡ o.plus o.nil (wpow o Q)
-  total-point Empty Q h = none h.dimension
-  total-point (Space s) Q h =
+  total-point x Q =
+      by_space (λ x. NoVariable x Q → total o x ≡ o.plus o.nil (wpow o Q)) (λ h. none h.dimension)
+      (λ s h.
       ap (λ d. sum_to o (term_at o s) (2 ^ d)) (some h.dimension)
-      ∙ ap (λ v. o.plus o.nil (wpow o v)) (value-first o s ∙ some h.phase)
+      ∙ ap (λ v. o.plus o.nil (wpow o v)) (value-first o s ∙ some h.phase))
+      x
 
   pub total-one : (x : Intersection) (Q D : ℕ) → OneVariable x Q D → total o x ≡ two-terms o Q ((Q + D) % 8)
-  total-one Empty Q D h = none h.dimension
-  total-one (Space s) Q D h =
+  total-one x Q D =
+      by_space (λ x. OneVariable x Q D → total o x ≡ two-terms o Q ((Q + D) % 8)) (λ h. none h.dimension)
+      (λ s h.
       let (p, e, l) = found_at (row_pivot s 1) (coefficient_at s) D h.linear in
       ap (λ d. sum_to o (term_at o s) (2 ^ d)) (some h.dimension)
-      ∙ ap₂ (two-terms o) (value-first o s ∙ some h.phase) (value_row o s 0 p e ∙ ap₂ (λ a b. (a + b) % 8) (some h.phase) l)
+      ∙ ap₂ (two-terms o) (value-first o s ∙ some h.phase) (value_row o s 0 p e ∙ ap₂ (λ a b. (a + b) % 8) (some h.phase) l))
+      x
 
   pub total-two : (x : Intersection) (Q D E : ℕ) → Coupled x Q D E
       → total o x ≡ four-terms o Q ((Q + D) % 8) ((Q + E) % 8) ((Q + E + (D + 4)) % 8)
-  total-two Empty Q D E h = none h.dimension
-  total-two (Space s) Q D E h =
+  total-two x Q D E =
+      by_space (λ x. Coupled x Q D E → total o x ≡ four-terms o Q ((Q + D) % 8) ((Q + E) % 8) ((Q + E + (D + 4)) % 8))
+      (λ h. none h.dimension)
+      (λ s h.
       let (p, e, l) = found_at (row_pivot s 1) (coefficient_at s) D h.first in
       let (q, f, m) = found_at (row_pivot s 2) (coefficient_at s) E h.second in
       let k = some (ap₂ (λ a b. found_both a b (coupling_between s)) (sym e) (sym f) ∙ h.coupling) in
@@ -76,7 +82,8 @@ module _ {R : Type 0} (o : Ops R) where
       ∙ ap₂ (λ a b. four-terms o a b (at o s 2) (at o s 3)) (value-first o s ∙ phase)
       (value_row o s 0 p e ∙ ap₂ (λ a b. (a + b) % 8) phase l)
       ∙ ap₂ (four-terms o Q ((Q + D) % 8)) (value_row o s 1 q f ∙ ap₂ (λ a b. (a + b) % 8) phase m)
-      (value-rows o s p q e f ∙ ap₂ (λ a b. (a + b) % 8) (ap₂ ◌+◌ phase m) (ap₂ ◌+◌ l k))
+      (value-rows o s p q e f ∙ ap₂ (λ a b. (a + b) % 8) (ap₂ ◌+◌ phase m) (ap₂ ◌+◌ l k)))
+      x
 
 -- the value of a scalar whose power is not negative determines the scalar
 pub value-known : (r : Scalar) (y : Triple) → Floor 0 (triple_of r) → Kind y → Floor 0 y → embedded omegas (triple_of r) ≡ embedded omegas y
@@ -92,5 +99,6 @@ pub sum-known : (x : Intersection) (r : Scalar) (y : Triple) → IsSum x r → K
 sum-known x r y h k f e = value-known r y (floor x h.bounds) k f (h.exact ∙ sym e)
   where
     floor : (x : Intersection) → Bounded x r → Floor 0 (triple_of r)
-    floor Empty b o = let z = ap (λ t. t.0) b in absurd (omega arith)
-    floor (Space s) b o = let h = b o in (h.0, +ℤ_idl r.power ∙ h.1)
+    floor =
+        by_space (λ x. Bounded x r → Floor 0 (triple_of r)) (λ b o. let z = ap (λ t. t.0) b in absurd (omega arith))
+        (λ s b o. let h = b o in (h.0, +ℤ_idl (triple_of r).1 ∙ h.1))

@@ -14,7 +14,8 @@ use Rattle.cyclotomic.proofs.Scalars.{exact-not-nil}
 use Rattle.quadratic.specs.Phase.{phase, less}
 use Rattle.quadratic.specs.Sums.{total, term_of}
 use Rattle.quadratic.specs.declared.intersection.Intersection.{Intersection}
-use Rattle.quadratic.specs.declared.intersection.Intersection.TheVariants.{Empty, Space}
+use Rattle.quadratic.specs.declared.phased.PhasedSpace.{PhasedSpace}
+use Rattle.quadratic.proofs.Cases.{by_space}
 use Rattle.quadratic.proofs.Enumerate.{sum-strings}
 use Rattle.quadratic.proofs.Extent.{space-below}
 use Rattle.stabilizer.specs.Overlaps.{Intersects, Overlaps, phase_inside, depth, lowered}
@@ -36,14 +37,16 @@ turned-phases s r = both-phases s.body 0 2 (held_both turned 1 0 1 s turned-run.
 -- a sum over the two strings of one qubit
 pub total-phases : {R : Type 0} {o : Ops R} → CommLaws o → (x : Intersection) (a b : ℕ) → Phases (phase_inside x) a b
     → total o x ≡ two-terms o a b
-total-phases laws Empty a b h = none h.zeroth
-total-phases {R} {o} laws (Space m) a b h =
-    sum-strings laws m 1 (space-below m 1 (λ y v e. below y v e (dec_lt y 2)))
-    ∙ ap₂ (λ p q. o.plus (o.plus o.nil (term_of o p)) (term_of o q)) h.zeroth h.first
+total-phases {R} {o} laws x a b =
+    by_space (λ x. Phases (phase_inside x) a b → total o x ≡ two-terms o a b) (λ h. none h.zeroth)
+    (λ m h.
+    sum-strings laws m 1 (space-below m 1 (λ y v e. below m h y v e (dec_lt y 2)))
+    ∙ ap₂ (λ p q. o.plus (o.plus o.nil (term_of o p)) (term_of o q)) h.zeroth h.first)
+    x
   where
-    below : (y v : ℕ) → phase m y ≡ Some v → Dec (y < 2) → y < 2
-    below y v e (yes l) = l
-    below y v e (no l) = none (sym (h.past y (omega arith)) ∙ e)
+    below : (m : PhasedSpace) → Phases (phase m) a b → (y v : ℕ) → phase m y ≡ Some v → Dec (y < 2) → y < 2
+    below m h y v e (yes l) = l
+    below m h y v e (no l) = none (sym (h.past y (omega arith)) ∙ e)
 
 -- 1 + i and 1 - i
 pub plus-quarter : omegas.plus omegas.one (wpow omegas 2) ≡ omegas.times (root omegas) (wpow omegas 1)
@@ -83,7 +86,8 @@ module _ (t s : StabilizerState) (a b : ℕ) (p : Phases (phase t.body) 0 a) (q 
   overlap-known m l e dt ds x h =
       let sum = h.sum in
       let value = h.exact ∙ total-phases omega-laws.comm h.both 0 _ (shared-phases h.both h.shared) ∙ e in
-      let high = floor sum.epsilon sum.power sum.turn value in
+      let y = triple_of sum in
+      let high = floor y.0 y.1 y.2 value in
       let known = value-known sum (1, pos 1, m) high (inr (refl, l)) (λ o. (1, refl)) value in
       h.value ∙ ap₂ lowered known (ap₂ ◌+◌ dt ds)
     where

@@ -1,7 +1,7 @@
 // Worked examples, run.
 use archive::codec::{read, write};
 use cyclotomic::refusal::Refusal;
-use listing::sheets::write_listing;
+use listing::sheets::{Document, Listing};
 use stabilizer::overlap::overlap;
 use stabilizer::state::StabilizerState;
 use std::io;
@@ -27,18 +27,11 @@ fn bytes_of(state: &StabilizerState) -> [u8; 4] {
     buffer
 }
 
-fn number_of(answer: Result<(), Refusal>) -> u64 {
-    match answer {
-        Ok(()) => 0,
-        Err(refusal) => refusal.number(),
-    }
-}
-
 #[test]
 fn opens_1_to_48_qubits(rt: HostRuntime) {
     let mut state = StabilizerState::new();
-    for (qubits, number) in [(49, 2), (0, 2), (48, 0), (1, 0)] {
-        assert_eq!(rt; number_of(state.open(qubits)), number, "at {qubits}");
+    for (qubits, answer) in [(49, Err(2)), (0, Err(2)), (48, Ok(())), (1, Ok(()))] {
+        assert_eq!(rt; state.open(qubits).map_err(Refusal::number), answer, "at {qubits}");
     }
     assert_eq!(rt; bytes_of(&state), [0x04, 0, 0, 0]);
 }
@@ -46,19 +39,19 @@ fn opens_1_to_48_qubits(rt: HostRuntime) {
 #[test]
 fn projects_one_qubit(rt: HostRuntime) {
     let opened = [0x04, 0, 0, 0];
-    for (bytes, text, number, left) in [
-        (opened, *b"+X", 0, LEVEL),
-        (opened, *b"+Y", 0, TURNED),
-        (opened, *b"-Z", 21, opened),
-        (opened, *b"-I", 21, opened),
-        (LEVEL, *b"+Y", 0, [0x04, 0x10, 0x01, 0x79]),
-        (SPENT, *b"+X", 22, SPENT),
-        (SPENT, *b"-Z", 21, SPENT),
-        (SPENT, *b"+Z", 0, SPENT),
-        (SPENT, *b"*Z", 12, SPENT),
+    for (bytes, text, answer, left) in [
+        (opened, *b"+X", Ok(()), LEVEL),
+        (opened, *b"+Y", Ok(()), TURNED),
+        (opened, *b"-Z", Err(21), opened),
+        (opened, *b"-I", Err(21), opened),
+        (LEVEL, *b"+Y", Ok(()), [0x04, 0x10, 0x01, 0x79]),
+        (SPENT, *b"+X", Err(22), SPENT),
+        (SPENT, *b"-Z", Err(21), SPENT),
+        (SPENT, *b"+Z", Ok(()), SPENT),
+        (SPENT, *b"*Z", Err(12), SPENT),
     ] {
         let mut state = state_of(&bytes);
-        assert_eq!(rt; number_of(state.project(&text)), number, "at {}", text[1]);
+        assert_eq!(rt; state.project(&text).map_err(Refusal::number), answer, "at {}", text[1]);
         assert_eq!(rt; bytes_of(&state), left, "at {}", text[1]);
     }
 }
@@ -68,27 +61,16 @@ fn overlaps_are_conjugate(rt: HostRuntime) {
     let level = state_of(&LEVEL);
     let turned = state_of(&TURNED);
     for (t, s, turn) in [(level, turned, 1), (turned, level, 7)] {
-        match overlap(&t, &s) {
-            Ok(x) => {
-                assert_eq!(rt; x.epsilon(), 1);
-                assert_eq!(rt; x.power(), -3);
-                assert_eq!(rt; x.turn(), turn);
-            }
-            Err(refusal) => assert_eq!(rt; refusal.number(), 0),
-        }
+        let triple = overlap(&t, &s).map(|x| (x.epsilon(), x.power(), x.turn()));
+        assert_eq!(rt; triple, Ok((1, -3, turn)));
     }
 }
 
 #[test]
 fn refuses_a_weight_field_of_4097(rt: HostRuntime) {
     let mut state = state_of(&LEVEL);
-    match read(&mut state, &[0x04, 0x08, 0x00, 0x80]) {
-        Ok(()) => assert!(rt; false, "read"),
-        Err(fault) => {
-            assert_eq!(rt; fault.number(), 4);
-            assert_eq!(rt; fault.place(), 12);
-        }
-    }
+    let answer = read(&mut state, &[0x04, 0x08, 0x00, 0x80]);
+    assert_eq!(rt; answer.map_err(|fault| (fault.number(), fault.place())), Err((4, 12)));
     assert_eq!(rt; bytes_of(&state), LEVEL);
 }
 
@@ -112,7 +94,7 @@ fn answers_c_in_four_bytes(rt: HostRuntime) {
 #[test]
 fn lists_two_states(rt: HostRuntime) -> io::Result<()> {
     let mut text = Vec::new(rt.alloc());
-    write_listing(
+    Listing::write(
         rt.alloc(),
         &mut text,
         &[2, 0x04, 0x10, 0x00, 0x88, 0x04, 0x10, 0x00, 0x89],
@@ -121,7 +103,7 @@ fn lists_two_states(rt: HostRuntime) -> io::Result<()> {
         "sheets 2\n1 2 1 -3 1 05 0000000000000001000000000000000000000000000000010000000000000000 .\n";
     assert!(rt; text.as_slice() == listing.as_bytes());
     text.clear();
-    write_listing(rt.alloc(), &mut text, &[2, 0x04, 0x10, 0x00, 0x88])?;
+    Listing::write(rt.alloc(), &mut text, &[2, 0x04, 0x10, 0x00, 0x88])?;
     assert!(rt; text.as_slice() == "fault 1 1 2 1 40\n".as_bytes());
     Ok(())
 }

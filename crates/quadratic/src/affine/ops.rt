@@ -2,7 +2,7 @@ ghost use Rattle.std.specs.Prelude.{◌≡◌, ℕ, suc, ◌*◌, ◌^◌, ◌<�
 ghost use Rattle.quadratic.specs.Bits.{bit as digit, dot as parity};
 ghost use Rattle.quadratic.specs.Bits.{flag as numeral};
 ghost use Rattle.quadratic.specs.Echelon.{row, combination as combined, reduced};
-ghost use Rattle.quadratic.specs.Strings.{Member, Half, Cut, OneLess, Moved, SameStrings, Doubled, Confined, Shared, Fitting, Appended, Shifted};
+ghost use Rattle.quadratic.specs.Strings.{Member, Half, Cut, OneLess, Moved, Doubled, Confined, Shared, Fitting, Appended, Shifted};
 
 use super::{AffineSpace, Outcome};
 use crate::bits::{bit, dot, flag, highest, lowest, turned, xor_rows};
@@ -195,25 +195,6 @@ impl AffineSpace {
             return other.confined(self);
         }
         self.confined(other)
-    }
-
-    // Whether two spaces have the same strings.
-    pub(crate) fn same(&self, other: &AffineSpace) -> bool
-        ensures sound { T result → SameStrings self.now other.now }
-        ensures complete { SameStrings self.now other.now → T result }
-    {
-        if self.pivots != other.pivots {
-            return false;
-        }
-        if self.shift != other.shift {
-            return false;
-        }
-        for p in 0..48 {
-            if self.rows[p] != other.rows[p] {
-                return false;
-            }
-        }
-        true
     }
 
     // Adds the direction f, which has no bit at a pivot, and whose highest bit is p.

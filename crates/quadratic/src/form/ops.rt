@@ -149,28 +149,6 @@ impl QuadraticForm {
         self.coupling[a]
     }
 
-    // Whether two forms have the same values.
-    pub(crate) fn same(&self, other: &QuadraticForm) -> bool
-        ensures sound { T result → ((c : ℕ) → value_at self.now c ≡ value_at other.now c) }
-        ensures complete { ((c : ℕ) → c < 2 ^ 48 → value_at self.now c ≡ value_at other.now c) → T result }
-    {
-        if self.phase != other.phase {
-            return false;
-        }
-        if self.odd != other.odd {
-            return false;
-        }
-        if self.neg != other.neg {
-            return false;
-        }
-        for a in 0..48 {
-            if self.coupling[a] != other.coupling[a] {
-                return false;
-            }
-        }
-        true
-    }
-
     // What the value gains where variable a of the point c is turned over.
     pub(crate) fn slope(&self, a: usize, c: u64) -> u8
         requires { a < 48 }

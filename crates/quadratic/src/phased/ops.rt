@@ -189,10 +189,7 @@ impl PhasedSpace {
         ensures sound { T result → SamePhases self.now other.now }
         ensures complete { SamePhases self.now other.now → T result }
     {
-        if !self.space.same(&other.space) {
-            return false;
-        }
-        self.form.same(&other.form)
+        self == other
     }
 
     // The form's value at the string numbered by c: row a is in it when bit a - 1 of c is 1.

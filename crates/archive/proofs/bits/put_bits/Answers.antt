@@ -19,7 +19,7 @@ one_more b d p j w v h inv here others =
 pub loop-j-init : goal.loop-j-init
 loop-j-init c = (
   bits_none c.args.bytes.now c.args.at
-      ∙ sym (div-eq_of_lt {n = c.args.value} {m = 2 ^ (c.args.width - 0)} (rw sub-zero c.requires.1.1.1)),
+      ∙ sym (div-eq_of_lt {n = c.args.value} {m = 2 ^ (c.args.width - 0)} (rw sub-zero c.requires.fits)),
   (λ q l. refl, λ q l. refl),
 )
 

@@ -8,5 +8,5 @@ returns-then-value-eq0 c = rw c.if-value-eq0.true (nothing-grown c.args.body.now
 pub returns : goal.returns
 returns c =
     let one : c.args.value ≡ 1 = omega arith in
-    rw one (coupling-grown c.args.body.now c.couple.new.self _ _ c.requires.1.1.0
-    (coupling-granted c.couple.result _ _ _ _ c.requires.0 c.requires.1.0 c.requires.1.1.0 c.couple.ensures))
+    rw one (coupling-grown c.args.body.now c.couple.new.self _ _ c.requires.order
+    (coupling-granted c.couple.result _ _ _ _ c.requires.pivot c.requires.later c.requires.order c.couple.ensures))

@@ -1,15 +1,14 @@
+use Rattle.std.proofs.lemmas.Result.{err_from_is_err_and}
 use Rattle.archive.specs.Archives.{archive_verdicts, archive_fault}
 use Rattle.archive.proofs.First.{first-none, first_some}
 use Rattle.archive.proofs.container.check.Goals as goal
 
-pub returns-in-Ok : goal.returns-in-Ok
+pub returns-clause-first : goal.returns-clause-first
 unfolding archive_fault
-returns-in-Ok c =
-    let h = c.in-Ok.ensures in
-    record { verdict = (h.0, h.1); first = first-none (archive_verdicts c.args.archive.now) h.0 }
+returns-clause-first c = first-none (archive_verdicts c.args.archive.now) c.in_ok-count.ensures.verdict
 
-pub returns-in-Err : goal.returns-in-Err
+pub returns-in_err-count-clause-first : goal.returns-in_err-count-clause-first
 unfolding archive_fault
-returns-in-Err c =
-    let h = c.in-Err.ensures in
-    record { verdict = h; first = first_some (archive_verdicts c.args.archive.now) _ h }
+returns-in_err-count-clause-first c =
+    let p = err_from_is_err_and c.from_residual.result c.from_residual.ensures.1 in
+    rw (p.1, p.2) (first_some (archive_verdicts c.args.archive.now) _ c.in_err-count.ensures.verdict)

@@ -26,39 +26,44 @@ module _ (b : List ℕ) (n : ℕ) (en : n ≡ count_of b) (l : 0 < length b) (h 
     complete : 8 * length b ≤ q → rest_verdict b (place_after b n) ≡ None
     complete g = rest_of ∙ cond-false _ _ _ (le-ltb q _ g)
 
-pub returns-in_default : goal.returns-in_default
-returns-in_default c = no-count c.args.archive.now (search rules) ∙ ap Some (sym c.from.ensures)
+pub returns-in_default-clause-verdict : goal.returns-in_default-clause-verdict
+returns-in_default-clause-verdict c = no-count c.args.archive.now (search rules) ∙ ap Some (sym c.from.ensures)
 
-pub returns-then-count-gt-MOST_STATES : goal.returns-then-count-gt-MOST_STATES
-returns-then-count-gt-MOST_STATES c = high-count c.args.archive.now (search rules) (omega arith)
+pub returns-then-count-gt-MOST_STATES-clause-verdict : goal.returns-then-count-gt-MOST_STATES-clause-verdict
+returns-then-count-gt-MOST_STATES-clause-verdict c = high-count c.args.archive.now (search rules) (omega arith)
 
 pub skip-requires : goal.skip-requires
 skip-requires c =
     let some : 0 < length c.args.archive.now = search rules in
-    (sym (first-place c.args.archive.now), (omega arith, (omega arith, omega arith)))
+    record {
+      place = sym (first-place c.args.archive.now);
+      near = omega arith;
+      few = omega arith;
+      inside = omega arith;
+    }
 
-pub returns-in_err-end : goal.returns-in_err-end
-returns-in_err-end c =
+pub returns-in_err-end-clause-verdict : goal.returns-in_err-end-clause-verdict
+returns-in_err-end-clause-verdict c =
     let p = err_from_is_err_and c.from_residual.result c.from_residual.ensures.1 in
     let some : 0 < length c.args.archive.now = search rules in
-    rw (p.1, p.2) (over-states c.args.archive.now _ c.from-count.ensures some (omega arith) _ c.in_err-end.ensures)
+    rw (p.1, p.2) (over-states c.args.archive.now _ c.from-count.ensures some (omega arith) _ c.in_err-end.ensures.verdict)
 
-pub returns-then-end-rest : goal.returns-then-end-rest
-returns-then-end-rest c =
+pub returns-then-end-rest-clause-verdict : goal.returns-then-end-rest-clause-verdict
+returns-then-end-rest-clause-verdict c =
     let b = c.args.archive.now in
     let h = c.in_ok-end.ensures in
     let some : 0 < length b = search rules in
-    over-states b _ c.from-count.ensures some (omega arith) _ h.0
-    ∙ surplus b _ c.from-count.ensures some (omega arith) c.in_ok-end.end h.1 (omega arith)
+    over-states b _ c.from-count.ensures some (omega arith) _ h.verdict
+    ∙ surplus b _ c.from-count.ensures some (omega arith) c.in_ok-end.end h.place (omega arith)
 
 pub returns : goal.returns
 returns c =
     let b = c.args.archive.now in
     let h = c.in_ok-end.ensures in
-    let some : 0 < length b = search rules in (
-      over-states b _ c.from-count.ensures some (omega arith) _ h.0
-          ∙ complete b _ c.from-count.ensures some (omega arith) c.in_ok-end.end h.1 (omega arith),
-      c.from-count.ensures,
-      omega arith,
-      some,
-    )
+    let some : 0 < length b = search rules in record {
+      verdict = over-states b _ c.from-count.ensures some (omega arith) _ h.verdict
+          ∙ complete b _ c.from-count.ensures some (omega arith) c.in_ok-end.end h.place (omega arith);
+      count = c.from-count.ensures;
+      few = omega arith;
+      some = some;
+    }

@@ -33,10 +33,10 @@ near : (a n p : ℕ) → a ≤ 48 → n ≤ 48 → p ≤ 2 ^ 31 → p + 28 + a *
 near a n p h g f = omega (arith, mul-le a n 48 48 h g)
 
 pub number_at-requires : goal.number_at-requires
-number_at-requires c = (
-  omega arith,
-  rw c.loop-a.invariant.stands (near c.loop-a.a c.args.n c.args.start (omega arith) (omega arith) (omega arith)),
-)
+number_at-requires c = record {
+  narrow = omega arith;
+  near = rw c.loop-a.invariant.stands (near c.loop-a.a c.args.n c.args.start (omega arith) (omega arith) (omega arith));
+}
 
 pub returns-in_err-row : goal.returns-in_err-row
 returns-in_err-row c =

@@ -24,7 +24,10 @@ loop-i-init c = (
 )
 
 pub demand-requires : goal.demand-requires
-demand-requires c = (omega arith, omega (arith, near c.loop-i.i c.args.width (omega arith) (omega arith)))
+demand-requires c = record {
+  narrow = omega arith;
+  near = omega (arith, near c.loop-i.i c.args.width (omega arith) (omega arith));
+}
 
 pub overflow_add-at : goal.overflow_add-at
 overflow_add-at c = omega (arith, near c.loop-i.i c.args.width (omega arith) (omega arith))

@@ -11,21 +11,21 @@ moved : (b : List ℕ) (k t m q : ℕ) → t ≡ q → m ≡ k - 1
     → first_fault b q (copies (pairs k) coupling) ≡ first_fault b t (copies (k * m / 2) coupling)
 moved b k t m q et em = ap₂ (λ i j. first_fault b i (copies (k * j / 2) coupling)) (sym et) (sym em)
 
-pub returns-in_err-n : goal.returns-in_err-n
+pub returns-in_err-n-clause-verdict : goal.returns-in_err-n-clause-verdict
 unfolding state_fault parts_at
-returns-in_err-n c =
+returns-in_err-n-clause-verdict c =
     let p = err_from_is_err_and c.from_residual.result c.from_residual.ensures.1 in
     rw (p.1, p.2) (stops c.args.bytes.now _ (header _) _ _ c.in_err-n.ensures)
 
-pub returns-in_err-leads : goal.returns-in_err-leads
-returns-in_err-leads c =
+pub returns-in_err-leads-clause-verdict : goal.returns-in_err-leads-clause-verdict
+returns-in_err-leads-clause-verdict c =
     let b = c.args.bytes.now in
     let h = c.in_ok-n.ensures in
     let p = err_from_is_err_and c.from_residual-in_err-leads.result c.from_residual-in_err-leads.ensures.1 in
     rw (p.1, p.2) (after-header b _ _ _ h.1 h.2 h.0 ∙ stops b _ (rows _ _ _ _ _) _ _ c.in_err-leads.ensures)
 
-pub returns-in_err-shift_fits : goal.returns-in_err-shift_fits
-returns-in_err-shift_fits c =
+pub returns-in_err-shift_fits-clause-verdict : goal.returns-in_err-shift_fits-clause-verdict
+returns-in_err-shift_fits-clause-verdict c =
     let b = c.args.bytes.now in
     let h = c.in_ok-n.ensures in
     let p = err_from_is_err_and c.from_residual-in_err-shift_fits.result c.from_residual-in_err-shift_fits.ensures.1 in
@@ -37,8 +37,8 @@ several-requires c =
     let h = c.in_ok-n.ensures in
     (omega arith, (omega arith, omega (arith, few c.in_ok-n.k c.in_ok-n.n h.4 h.3)))
 
-pub returns-in_err-couplings : goal.returns-in_err-couplings
-returns-in_err-couplings c =
+pub returns-in_err-couplings-clause-verdict : goal.returns-in_err-couplings-clause-verdict
+returns-in_err-couplings-clause-verdict c =
     let b = c.args.bytes.now in
     let h = c.in_ok-n.ensures in
     let p = err_from_is_err_and c.from_residual-in_err-couplings.result c.from_residual-in_err-couplings.ensures.1 in
@@ -56,8 +56,8 @@ several-requires-2 c =
       ),
     )
 
-pub returns-in_err-end : goal.returns-in_err-end
-returns-in_err-end c =
+pub returns-in_err-end-clause-verdict : goal.returns-in_err-end-clause-verdict
+returns-in_err-end-clause-verdict c =
     let b = c.args.bytes.now in
     let h = c.in_ok-n.ensures in
     let l = c.in_ok-couplings.ensures in
@@ -77,8 +77,8 @@ module _ (b : List ℕ) (p n k : ℕ) (en : n ≡ size_at b p) (ek : k ≡ rank_
   before-fill : state_fault b p ≡ first_fault b q (fill q ∷ [])
   before-fill = after-coupling b p n k en ek h r s l (moved b k t m _ et em ∙ z) ∙ ap (λ i. first_fault b i (fill i ∷ [])) (sym at_fill)
 
-pub returns-in_err-number_in : goal.returns-in_err-number_in
-returns-in_err-number_in c =
+pub returns-in_err-number_in-clause-verdict : goal.returns-in_err-number_in-clause-verdict
+returns-in_err-number_in-clause-verdict c =
     let h = c.in_ok-n.ensures in
     let l = c.in_ok-couplings.ensures in
     let e = c.in_ok-end.ensures in
@@ -94,17 +94,17 @@ returns c =
     let l = c.in_ok-couplings.ensures in
     let e = c.in_ok-end.ensures in
     let sum = at_fill b _ _ _ h.1 h.2 h.0 c.in_ok-leads.ensures.0 c.in_ok-shift_fits.ensures
-    l.0 _ _ _ l.1 c.saturating_sub.ensures e.0 e.1 in (
-      before-fill b _ _ _ h.1 h.2 h.0 c.in_ok-leads.ensures.0 c.in_ok-shift_fits.ensures l.0 _ _ _
+    l.0 _ _ _ l.1 c.saturating_sub.ensures e.0 e.1 in record {
+      verdict = before-fill b _ _ _ h.1 h.2 h.0 c.in_ok-leads.ensures.0 c.in_ok-shift_fits.ensures l.0 _ _ _
           l.1 c.saturating_sub.ensures e.0 e.1
-          ∙ c.in_ok-number_in.ensures.0,
-      ap padded sum ∙ sym (end_is b _ _ _ h.1 h.2),
-      omega (
+          ∙ c.in_ok-number_in.ensures.0;
+      end = ap padded sum ∙ sym (end_is b _ _ _ h.1 h.2);
+      near = omega (
         arith,
         few c.in_ok-n.k c.in_ok-n.n h.4 h.3,
         few-pairs c.in_ok-n.k _ (omega arith) c.saturating_sub.ensures,
         l.1,
         e.1,
-      ),
-      c.in_ok-number_in.ensures.4,
-    )
+      );
+      inside = c.in_ok-number_in.ensures.4;
+    }

@@ -20,28 +20,29 @@ one_more b i (r ∷ ss) s t h =
 pub loop-i-init : goal.loop-i-init
 loop-i-init c =
     let h = c.in_ok-count.ensures in
-    let none = c.new-states.ensures.items in (
-      sym (first-place c.args.archive.now),
-      omega arith,
-      omega (arith, h.3),
-      c.new-states.ensures.len,
-      ap length none,
-      subst (InTurn c.args.archive.now 0) (sym none) tt,
-    )
+    let none = c.new-states.ensures.items in
+    record {
+      place = sym (first-place c.args.archive.now);
+      near = omega arith;
+      inside = omega (arith, h.some);
+      count = c.new-states.ensures.len;
+      long = ap length none;
+      turn = subst (InTurn c.args.archive.now 0) (sym none) tt;
+    }
 
 pub returns-in_err-end : goal.returns-in_err-end
 returns-in_err-end c =
     let h = c.in_ok-count.ensures in
-    let good = states-good c.args.archive.now c.loop-i.i 1 h.3 (omega (arith, h.1, h.2)) h.0 (omega (arith, h.1)) in
-    absurd (none-some _ (sym good ∙ c.in_err-end.ensures))
+    let good = states-good c.args.archive.now c.loop-i.i 1 h.some (omega (arith, h.count, h.few)) h.verdict (omega (arith, h.count)) in
+    absurd (none-some _ (sym good ∙ c.in_err-end.ensures.verdict))
 
 pub build-requires : goal.build-requires
 build-requires c =
-    let h = c.in_ok-count.ensures in (
-      omega (arith, c.loop-i.invariant.1, h.2),
-      ap (state_fault c.args.archive.now) c.loop-i.invariant.0
-          ∙ state-good _ _ c.in_ok-end.ensures.0,
-    )
+    let h = c.in_ok-count.ensures in
+    record {
+      near = omega (arith, c.loop-i.invariant.near, h.few);
+      sound = ap (state_fault c.args.archive.now) c.loop-i.invariant.place ∙ state-good _ _ c.in_ok-end.ensures.verdict;
+    }
 
 pub loop-i-preserved : goal.loop-i-preserved
 loop-i-preserved c =
@@ -50,13 +51,13 @@ loop-i-preserved c =
     let u = c.in_ok-end.ensures in
     let p = c.in_ok-push.ensures in
     let ss = vec_items c.loop-i.states in
-    let here : c.loop-i.at ≡ place_after b (0 + length ss) = c.loop-i.invariant.0
-    ∙ ap (place_after b) (sym (zero-add (length ss) ∙ c.loop-i.invariant.4)) in (
-      u.1,
-      u.2,
-      u.3,
-      p.len ∙ ap (λ m. m + 1) c.loop-i.invariant.3,
-      ap length p.items ∙ length-append ss (c.build.result ∷ []) ∙ ap (λ m. m + 1) c.loop-i.invariant.4,
-      subst (InTurn b 0) (sym p.items)
-          (one_more b 0 ss c.build.result c.loop-i.invariant.5 (subst (λ q. Holds b q c.build.result) here c.build.ensures)),
-    )
+    let here : c.loop-i.at ≡ place_after b (0 + length ss) = c.loop-i.invariant.place
+    ∙ ap (place_after b) (sym (zero-add (length ss) ∙ c.loop-i.invariant.long)) in record {
+      place = u.place;
+      near = u.near;
+      inside = u.inside;
+      count = p.len ∙ ap (λ m. m + 1) c.loop-i.invariant.count;
+      long = ap length p.items ∙ length-append ss (c.build.result ∷ []) ∙ ap (λ m. m + 1) c.loop-i.invariant.long;
+      turn = subst (InTurn b 0) (sym p.items)
+          (one_more b 0 ss c.build.result c.loop-i.invariant.turn (subst (λ q. Holds b q c.build.result) here c.build.ensures));
+    }

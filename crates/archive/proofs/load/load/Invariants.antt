@@ -4,6 +4,11 @@ use Rattle.archive.specs.Loads.{InTurn}
 use Rattle.archive.proofs.load.load.Given as goal
 
 abbrev pub invariant-loop-i : goal.invariant-loop-i
-invariant-loop-i l =
-    (l.at ≡ place_after l.archive l.i) × (l.at ≤ 8 + l.i * 4096) × (l.at ≤ 8 * length l.archive)
-    × (vec_len l.states ≡ l.i) × (length (vec_items l.states) ≡ l.i) × InTurn l.archive 0 (vec_items l.states)
+invariant-loop-i l = record {
+  place : l.at ≡ place_after l.archive l.i;
+  near : l.at ≤ 8 + l.i * 4096;
+  inside : l.at ≤ 8 * length l.archive;
+  count : vec_len l.states ≡ l.i;
+  long : length (vec_items l.states) ≡ l.i;
+  turn : InTurn l.archive 0 (vec_items l.states);
+}

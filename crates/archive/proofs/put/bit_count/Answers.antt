@@ -8,4 +8,4 @@ returns c =
     let e = ap (λ s. k * s / 2) c.saturating_sub.ensures in
     let f = few k c.args.n (omega arith) (omega arith) in
     let g = few-pairs k c.saturating_sub.result (omega arith) c.saturating_sub.ensures in
-    (omega arith, (omega arith, omega arith))
+    record { count = omega arith; most = omega arith; least = omega arith }

@@ -1,4 +1,4 @@
-use Rattle.std.proofs.Common.{◌≡◌, ℕ, suc, ◌+◌, ◌-◌, ◌<◌, ◌≤◌, get_or, sym, refl, ap, ◌∙◌, subst, inl, inr, add-one, arith}
+use Rattle.std.proofs.Common.{◌≡◌, ℕ, length, suc, ◌+◌, ◌-◌, ◌<◌, ◌≤◌, get_or, sym, refl, ap, ◌∙◌, subst, inl, inr, add-one, arith}
 use Rattle.std.proofs.lemmas.Bool.{cases_eq}
 use Rattle.quadratic.specs.Quadratic.{link}
 use Rattle.archive.specs.Bits.{bits_from, Framed}
@@ -26,7 +26,7 @@ ends n k = let z : suc k - suc k ≡ 0 = omega arith in let y : k - k ≡ 0 = om
 pub loop-a-preserved : goal.loop-a-preserved
 loop-a-preserved c =
     let n = c.args.n in
-    let k = c.args.k in
+    let k = length c.args.pivots.now in
     let a = c.loop-a.a in
     let d = c.put_coupling_row.new.buffer in
     let f = c.put_coupling_row.ensures.framed in
@@ -36,7 +36,7 @@ loop-a-preserved c =
       λ i j l h m. elim (cases_eq i a) [
         | inl e ↦
             ap (λ t. bits_from d (place_of_coupling 0 n k t j) 1) e ∙ c.put_coupling_row.ensures.there j (omega arith) m
-            ∙ ap (λ t. link c.args.body.now.form.coupling (get_or c.args.leads.now t 0) (get_or c.args.leads.now j 0)) (sym e)
+            ∙ ap (λ t. link c.args.body.now.form.coupling (get_or c.args.pivots.now t 0) (get_or c.args.pivots.now j 0)) (sym e)
         | inr ne ↦ keep-before c.loop-a.buffer d from to (place_of_coupling 0 n k i j) 1 f (earlier n k i j a h m (omega arith))
             ∙ c.loop-a.invariant.0 i j (omega arith) h m
       ],
@@ -47,7 +47,7 @@ loop-a-preserved c =
 pub returns : goal.returns
 returns c =
     let n = c.args.n in
-    let k = c.args.k in
+    let k = length c.args.pivots.now in
     let full : c.loop-a.a ≡ k = omega arith in
     record {
       there = λ i j h l. c.loop-a.invariant.0 i j (omega arith) h l;

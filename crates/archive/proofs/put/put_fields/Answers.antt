@@ -1,4 +1,4 @@
-use Rattle.std.proofs.Common.{◌≡◌, ◌+◌, ◌*◌, ◌≤◌, sym, subst, zero-mul, arith}
+use Rattle.std.proofs.Common.{◌≡◌, length, ◌+◌, ◌*◌, ◌≤◌, sym, subst, zero-mul, arith}
 use Rattle.archive.specs.Bits.{bits_from, Framed}
 use Rattle.archive.specs.Held.{linear_place}
 use Rattle.archive.specs.Layout.{bits_before_fill, padded, padding}
@@ -10,8 +10,8 @@ use Rattle.archive.proofs.put.put_fields.Goals as goal
 pub returns : goal.returns
 returns c =
     let n = c.args.n in
-    let k = c.args.k in
-    let leads = c.args.leads.now in
+    let k = length c.args.pivots.now in
+    let leads = c.args.pivots.now in
     let t = c.args.body.now in
     let b₀ = c.args.buffer.now in
     let b₁ = c.put_header.new.buffer in
@@ -28,7 +28,7 @@ returns c =
     let i₄ : linear_place 0 n k k ≤ bits_before_fill n k = omega arith in
     let row-end : linear_place 0 n k 0 ≡ 28 + k * n + n = omega arith in
     let f₂' = subst (Framed b₁ b₂ 28) (sym row-end) f₂ in
-    let e = c.bit_count-end.ensures.0 in
+    let e = c.bit_count-end.ensures.count in
     let b₅ = c.put_bits.new.bytes in
     let f₅ : Framed b₄ b₅ (bits_before_fill n k) (padded (bits_before_fill n k)) = subst (λ q. Framed b₄ b₅ q (padded q)) e
     c.put_bits.ensures.framed in

@@ -18,17 +18,17 @@ next n i =
 
 pub loop-i-init : goal.loop-i-init
 loop-i-init g c =
-    Writes-nil g.L.Line.text g.L.Line.numbers g.L.Line.tells _ (UpTo (length c.args.states.now) _) _ (λ p h. omega arith)
+    Writes-nil g.T.OfPair.text g.T.OfPair.tells _ (UpTo (length c.args.states.now) _) _ (λ p h. omega arith)
 
 pub loop-i-preserved : goal.loop-i-preserved
 loop-i-preserved g c =
     let n = length c.args.states.now in
     let i = c.loop-i.i in
-    Writes-append g.L.Line.text g.L.Line.numbers g.L.Line.tells _ (UpTo n i) (IsPairOf (i + 1) n) (UpTo n (i + 1))
+    Writes-append g.T.OfPair.text g.T.OfPair.tells _ (UpTo n i) (IsPairOf (i + 1) n) (UpTo n (i + 1))
     _ _ _ (next n i) c.loop-i.invariant c.in_ok-write_pairs_of.ensures
 
 pub returns : goal.returns
 returns g c =
     let n = length c.args.states.now in
-    Writes-same g.L.Line.text g.L.Line.numbers g.L.Line.tells _ (UpTo n c.loop-i.i) (IsPair n) _ _
+    Writes-same g.T.OfPair.text g.T.OfPair.tells _ (UpTo n c.loop-i.i) (IsPair n) _ _
     (λ p h. h.0) (λ p h. (h, omega arith)) c.loop-i.invariant

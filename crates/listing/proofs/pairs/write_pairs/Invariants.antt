@@ -5,5 +5,5 @@ use Rattle.listing.proofs.pairs.write_pairs.Given as goal
 
 abbrev pub invariant-loop-i : goal.invariant-loop-i
 invariant-loop-i g l =
-    Writes (Lines g.L.Line.text g.L.Line.numbers g.L.Line.tells l.states (λ p. IsPair (length l.states) p × (p.0 ≤ l.i)))
+    Writes (Lines g.T.OfPair.text g.T.OfPair.tells l.states (λ p. IsPair (length l.states) p × (p.0 ≤ l.i)))
     (g.O.Write.contents l.fn.out) (g.O.Write.contents l.out)

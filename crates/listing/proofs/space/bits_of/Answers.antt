@@ -10,9 +10,9 @@ low y i = and_mask (y / 2 ^ i) 1
 pub loop-i-preserved : goal.loop-i-preserved
 loop-i-preserved c =
     let i = c.loop-i.i in
-    let within : i < length c.loop-i.bits = search rules in (
+    let within : i < length c.loop-i.digit-items = search rules in (
       simp length-set c.loop-i.invariant.0,
       below_more _ _
           (λ k h. let ne : k ≢ i = omega arith in rw get_or-set_other (c.loop-i.invariant.1 k h))
-          (get_or-set_same c.loop-i.bits i _ 0 within ∙ ap (λ (x : ℕ). 48 + x) (low c.args.string (47 - i))),
+          (get_or-set_same c.loop-i.digit-items i _ 0 within ∙ ap (λ (x : ℕ). 48 + x) (low c.args.string (47 - i))),
     )

@@ -5,10 +5,10 @@ use Rattle.listing.proofs.text.column_digits.Goals as goal
 pub loop-place-preserved : goal.loop-place-preserved
 loop-place-preserved g c =
     let place = c.loop-place.place in
-    let within : place < length c.loop-place.digits = search rules in (
+    let within : place < length c.loop-place.digit-items = search rules in (
       simp length-set c.loop-place.invariant.0,
       below_more _ _
           (λ k h. let ne : k ≢ place = omega arith in rw get_or-set_other (c.loop-place.invariant.1 k h))
-          (get_or-set_same c.loop-place.digits place c.glyph.result 0 within
-          ∙ (c.glyph.ensures.0 c.digit.ensures.1 ∙ ap glyph_of c.digit.ensures.0)),
+          (get_or-set_same c.loop-place.digit-items place c.glyph.result 0 within
+          ∙ (c.glyph.ensures.digit c.digit.ensures.1 ∙ ap glyph_of c.digit.ensures.0)),
     )

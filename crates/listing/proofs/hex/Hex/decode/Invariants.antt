@@ -1,6 +1,12 @@
-use Rattle.std.proofs.Common.{◌≡◌, ℕ, ◌<◌, get_or, vec_items, vec_len}
+use Rattle.std.proofs.Common.{◌≡◌, ℕ, ◌*◌, ◌<◌, ◌≤◌, length, drop, get_or, vec_items, vec_len}
 use Rattle.listing.specs.Digits.{byte_at}
 use Rattle.listing.proofs.hex.Hex.decode.Given as goal
 
-abbrev pub invariant-loop-i : goal.invariant-loop-i
-invariant-loop-i l = (vec_len l.out ≡ l.i) × ((k : ℕ) → k < l.i → get_or (vec_items l.out) k 0 ≡ byte_at l.self.digits.now k)
+abbrev pub invariant-loop-pair : goal.invariant-loop-pair
+invariant-loop-pair l =
+    record {
+      size : l.pair-iterator.size ≡ 2;
+      within : 2 * vec_len l.out ≤ length l.self.digits.now;
+      rest : l.pair-iterator.rest.now ≡ drop (2 * vec_len l.out) l.self.digits.now;
+      each : (k : ℕ) → k < vec_len l.out → get_or (vec_items l.out) k 0 ≡ byte_at l.self.digits.now k;
+    }

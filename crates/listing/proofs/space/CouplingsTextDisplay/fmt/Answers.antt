@@ -18,22 +18,25 @@ some-couplings s (suc n) h =
 -- a row more
 more : (s : PhasedSpace) (n : ℕ) → 2 ≤ dimension_of s
     → following false (coupling_texts s (n + 1))
-    ≡ following false (coupling_texts s n) ++ following (nat_lt 1 (n + 1)) (couplings_of s (n + 1) (dimension_of s - (n + 1)))
+    ≡ following false (coupling_texts s n) ++ following (nat_lt 0 n) (couplings_of s (n + 1) (dimension_of s - (n + 1)))
 more s n h =
-    let test : nat_lt 0 n ≡ nat_lt 1 (suc n) = grind (arith, nat_tests) in
     rw add-one (following-append false (coupling_texts s n) (couplings_of s (suc n) (dimension_of s - suc n))
     ∙ ap (λ b. following false (coupling_texts s n) ++ following b (couplings_of s (suc n) (dimension_of s - suc n)))
-    (some-couplings s n h ∙ test))
+    (some-couplings s n h))
 
 pub loop-a-preserved : goal.loop-a-preserved
 loop-a-preserved g c = λ plain.
-    has_written_of_eq _ _ _ _ _ (sym (more c.args.self.now.0.now c.loop-a.a (omega arith)))
-    (has_written_append _ _ _ _ _ _ (c.loop-a.invariant plain) (search rules))
+    let s = c.args.self.now.0.now in
+    let a = c.loop-a.a-counter in
+    let so_far = c.loop-a.invariant plain in
+    has_written_of_eq _ _ _ _ _ (sym (more s a (omega arith)))
+    (has_written_append _ _ _ _ _ _ so_far
+    ((rw c.dimension-dimension.ensures at c.in_ok-write_items.ensures) (λ b. coupling_text s (a + 1) (a + 1 + b)) (λ b x low high p. search rules) so_far.plain refl))
 
 pub returns-clause-writes : goal.returns-clause-writes
 returns-clause-writes g c = λ plain ok.
     let s = c.args.self.now.0.now in
-    let end : c.loop-a.a ≡ dimension_of s = omega arith in
+    let end : c.loop-a.a-counter ≡ dimension_of s = omega arith in
     let two : 2 ≤ dimension_of s = omega arith in
     let some : nat_lt 0 (dimension_of s) ≡ true = grind (arith, nat_tests) in
     has_written_of_eq _ _ _ _ _

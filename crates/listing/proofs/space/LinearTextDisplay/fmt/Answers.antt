@@ -1,10 +1,7 @@
-use Rattle.std.proofs.Common.{false, sym, rules}
-use Rattle.std.proofs.Output.{has_written_append, has_written_of_eq}
+use Rattle.std.proofs.Common.{rules}
 use Rattle.listing.specs.Fields.{linear_text}
-use Rattle.listing.proofs.Commas.{following-more}
 use Rattle.listing.proofs.space.LinearTextDisplay.fmt.Goals as goal
 
-pub loop-a-preserved : goal.loop-a-preserved
-loop-a-preserved g c = λ plain.
-    has_written_of_eq _ _ _ _ _ (sym (following-more false (linear_text c.args.self.now.0.now) c.loop-a.a))
-    (has_written_append _ _ _ _ _ _ (c.loop-a.invariant plain) (search rules))
+pub returns-clause-writes : goal.returns-clause-writes
+returns-clause-writes g c =
+    rw c.dimension.ensures at (c.write_joined.ensures (linear_text c.args.self.now.0.now) (λ a x low high p. search rules))

@@ -1,4 +1,4 @@
-use Rattle.std.proofs.Common.{◌≡◌, ℕ, ◌-◌, ◌≤◌, length, ap, ◌∙◌, arith, rules}
+use Rattle.std.proofs.Common.{◌≡◌, ℕ, ◌-◌, length, ap, ◌∙◌, arith, rules}
 use Rattle.listing.specs.Digits.{glyphs}
 use Rattle.listing.proofs.Glyphs.{glyphs-front, same-put}
 use Rattle.listing.proofs.text.ColumnTextDisplay.fmt.Goals as goal
@@ -7,9 +7,10 @@ pub returns-clause-writes : goal.returns-clause-writes
 returns-clause-writes g c = λ plain ok.
     let digits = c.column_digits-digits.result in
     let f = g.C.Column.digit_of c.args.self.now.0 in
-    let width = c.DIGITS-width.result in
+    let width = c.DIGITS.result in
     let long : length digits ≡ 64 = search rules in
-    let within : width - 0 ≤ 64 = omega arith in
-    let same : width - 0 ≡ g.C.Column.digits = omega arith in
-    same-put (glyphs-front f digits (width - 0) 64 long within c.column_digits-digits.ensures ∙ ap (λ (n : ℕ). glyphs f 0 n) same)
+    let cut = (rw c.in_ok-shown.ensures.ok_part at c.get.ensures.lookup).0 in
+    let same : width - 0 ≡ g.C.Column.DIGITS = omega (arith, c.DIGITS.ensures) in
+    same-put (cut.2 ∙ (glyphs-front f digits (width - 0) 64 long (omega (arith, cut.1)) c.column_digits-digits.ensures
+    ∙ ap (λ (n : ℕ). glyphs f 0 n) same))
     (c.write_ascii.ensures plain ok)
