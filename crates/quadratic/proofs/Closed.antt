@@ -1,5 +1,5 @@
 -- The closed form of a sum in every ring, from its value in Z[ω].
-use Rattle.std.proofs.Common.{◌≡◌, inl, inr, ℕ, ◌^◌, ℤ, pos, ◌<ℤ◌, sym, refl, ap, ◌∙◌, ap₂, arith}
+use Rattle.std.proofs.Common.{◌≡◌, inl, inr, ℕ, ◌^◌, ℤ, pos, ◌<ℤ◌, sym, ap, ◌∙◌, ap₂, arith}
 use borrow.Author.Differences.{ints}
 use lib.Count.{ones}
 use Rattle.cyclotomic.specs.Adjoin.{omegas}

@@ -60,11 +60,11 @@ impl PauliMasks {
         ensures { Added result (letter_of letter) self place }
     {
         let here: u64 = 1 << place;
-        let (flip, sign) = match letter {
-            b'I' => (0, 0),
-            b'X' => (1, 0),
-            b'Y' => (1, 1),
-            b'Z' => (0, 1),
+        let (flip, sign) = match letter as char {
+            'I' => (0, 0),
+            'X' => (1, 0),
+            'Y' => (1, 1),
+            'Z' => (0, 1),
             _ => return Err(Refusal::Letter),
         };
         Ok(PauliMasks {
@@ -110,9 +110,9 @@ fn sign_quarters(sign: u8) -> Option<u8>
     ensures read { result ≡ quarters_of (sign_of sign) }
     ensures small { IfSome result (λ q. q ≤ 2) }
 {
-    match sign {
-        b'+' => Some(0),
-        b'-' => Some(2),
+    match sign as char {
+        '+' => Some(0),
+        '-' => Some(2),
         _ => None,
     }
 }

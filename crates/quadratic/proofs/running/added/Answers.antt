@@ -1,4 +1,4 @@
-use Rattle.std.proofs.Common.{◌≡◌, suc, ◌+◌, refl, ap, sym, ◌∙◌, arith}
+use Rattle.std.proofs.Common.{◌≡◌, suc, ◌+◌, ap, sym, ◌∙◌, arith}
 use Rattle.cyclotomic.specs.Sum.{sum_to}
 use Rattle.quadratic.specs.Running.{term_in}
 use Rattle.quadratic.proofs.Added.{full, room, closes}
