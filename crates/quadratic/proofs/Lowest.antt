@@ -1,10 +1,10 @@
 -- The lowest set bit of a mask, and the mask without it.
 use Rattle.std.proofs.Common.{◌≡◌, ℕ, zero, suc, ◌+◌, ◌*◌, ◌/◌, ◌%◌, ◌^◌, ◌<◌, ◌≤◌, ◌≢◌, sym, refl, ap, ◌∙◌, ap₂, add-zero, mod-eq_of_lt, one-mul, pow-suc, mul-zero, div-one, one-add, arith, pow_pos, shr-shr}
 use native.Mathlib.Decide.{ℕ_discrete, dec_lt}
-use lib.Bits.{bit_and, bit_xor, xor_add_and, xor_lt}
+use lib.Bits.{bit_and, bit_xor, xor_add_and, xor_assoc, xor_comm, xor_lt, xor_self, xor_zero_l}
 use lib.Count.{ones, count_trailing_zeros, under}
 use lib.Pow.{pow-lt}
-use Rattle.quadratic.specs.Bits.{bit, sum}
+use Rattle.quadratic.specs.Bits.{bit, sum, Lowest}
 use Rattle.quadratic.proofs.Bitlaws.{digit, bit-lt, bit-xor, bit-and, bit-pow, bit-pow-other, bit_past, ones_low}
 use Rattle.quadratic.proofs.Dots.{by_bits}
 
@@ -63,6 +63,20 @@ dropped x a o = bit-xor x (2 ^ a) a ∙ ap₂ (λ p q. (p + q) % 2) o (bit-pow a
 pub undropped : (x a k : ℕ) → k ≢ a → bit (bit_xor x (2 ^ a)) k ≡ bit x k
 undropped x a k ne = bit-xor x (2 ^ a) k ∙ ap (λ q. (bit x k + q) % 2) (bit-pow-other a k ne) ∙ simp add-zero (mod-eq_of_lt (bit-lt x k))
 
+-- a bit that goes from one mask to another
+pub still : (s x p : ℕ) → bit_xor (bit_xor s (2 ^ p)) (bit_xor x (2 ^ p)) ≡ bit_xor s x
+still s x p =
+    xor_assoc s (2 ^ p) (bit_xor x (2 ^ p))
+    ∙ ap (bit_xor s) (ap (bit_xor (2 ^ p)) (xor_comm x (2 ^ p)) ∙ sym (xor_assoc (2 ^ p) (2 ^ p) x)
+    ∙ ap (λ z. bit_xor z x) (xor_self (2 ^ p)) ∙ xor_zero_l x)
+
+-- the same of the lowest set bit
+pub gone-off : (x p y : ℕ) → Lowest x p y → bit y p ≡ 0
+gone-off x p y low = ap (λ z. bit z p) low.rest ∙ dropped x p low.on
+
+pub gone-other : (x p y k : ℕ) → Lowest x p y → k ≢ p → bit y k ≡ bit x k
+gone-other x p y k low ne = ap (λ z. bit z k) low.rest ∙ undropped x p k ne
+
 -- one bit less
 sum_drop : (f g : ℕ → ℕ) (a n : ℕ) → a < n → f a ≡ 1 → g a ≡ 0 → ((k : ℕ) → k ≢ a → g k ≡ f k) → sum g n + 1 ≡ sum f n
 sum_drop f g a zero l o z h = absurd (omega arith)
@@ -83,6 +97,13 @@ ones-drop x a l on =
     let e = sum_drop (bit x) (bit (bit_xor x (2 ^ a))) a 48 i on (dropped x a on) (λ k ne. undropped x a k ne) in
     ap (λ n. n + 1) (ap ones (sym (mod-eq_of_lt low)) ∙ ones_low 48 (bit_xor x (2 ^ a))) ∙ e ∙ sym (ones_low 48 x)
     ∙ ap ones (mod-eq_of_lt l)
+
+-- the word without its lowest set bit stays small, and has fewer set bits
+pub lowest-below : (x p y : ℕ) → x < 2 ^ 48 → bit x p ≡ 1 → y ≡ bit_xor x (2 ^ p) → y < 2 ^ 48
+lowest-below x p y l on e = let f = left-falls x p y on e in omega (arith, f, l)
+
+pub lowest-fewer : (x p y : ℕ) → x < 2 ^ 48 → bit x p ≡ 1 → y ≡ bit_xor x (2 ^ p) → ones y < ones x
+lowest-fewer x p y l on e = let d = ones-drop x p l on in let s = ap ones e in omega (arith, d, s)
 
 pub ones-zero : ones 0 ≡ 0
 unfolding ones
