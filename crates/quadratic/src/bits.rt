@@ -45,7 +45,7 @@ impl Iterator for SetBits {
             return None;
         }
         let p = lowest(self.left);
-        self.left = turned(self.left, p);
+        self.left &= self.left - 1;
         Some(p)
     }
 }
