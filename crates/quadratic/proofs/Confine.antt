@@ -1,15 +1,18 @@
 -- Strings that agree with a space at more and more positions.
-use Rattle.std.proofs.Common.{◌≡◌, count_ones, ℕ, ◌+◌, ◌^◌, ◌<◌, ◌≤◌, Some, None, Option, sym, refl, ap, ◌∙◌, subst, lt_of_lt_of_le, lt_of_le_of_lt, mod-eq_of_lt, add-one, arith, pow_mono}
+use Rattle.std.proofs.Common.{◌≡◌, count_ones, ℕ, zero, suc, ◌+◌, ◌-◌, ◌%◌, ◌^◌, ◌<◌, ◌≤◌, Some, None, Option, sym, refl, ap, ◌∙◌, subst, lt_of_lt_of_le, lt_of_le_of_lt, mod-eq_of_lt, add-one, add-zero, arith, pow_mono}
+use Rattle.std.proofs.lemmas.Nat.Bits.{bit_at_not}
+use Rattle.std.specs.Int.{bit_not, w64}
 use native.Mathlib.Decide.{ℕ_discrete, dec_lt}
 use lib.Bits.{bit_and, xor_lt, and_le_r}
 use lib.Count.{ones}
-use Rattle.quadratic.specs.Bits.{bit, dot, sum}
+use Rattle.quadratic.specs.Bits.{bit, dot, sum, Lowest}
 use Rattle.quadratic.specs.Echelon.{row, combination, reduced}
 use Rattle.quadratic.specs.Strings.{Member, Under, Half, Cut, Both, Shared}
 use Rattle.quadratic.specs.declared.affine.AffineSpace.{AffineSpace}
 use Rattle.quadratic.specs.declared.affine.Outcome.{Outcome}
 use Rattle.quadratic.specs.declared.affine.Outcome.TheVariants.{Unchanged, Empty, Restricted}
-use Rattle.quadratic.proofs.Bitlaws.{same_bits, bit_past, ones_low}
+use Rattle.quadratic.proofs.Bitlaws.{same_bits, bit-low, bit_past, bit-zero, not-both, ones_low}
+use Rattle.quadratic.proofs.Lowest.{gone-off, gone-other}
 use Rattle.quadratic.proofs.Distinct.{span-lt, pivots-same}
 use Rattle.quadratic.proofs.Laws.{facts, holds, member, member_is, red-clean, off-bit}
 
@@ -134,6 +137,74 @@ module _ (s s' t : AffineSpace) (i : ℕ) (a : Agreeing s s' t i) where
     pub agree-empty : (b : ℕ) → b ≡ bit t.shift i → ((y : ℕ) → Member s' y → dot w y ≡ b → ⊥) → (y : ℕ) → Member s y → Member t y → ⊥
     agree-empty b eb h y m n = h y (a.kept y m n) (parity-is y ∙ own t y i n ∙ sym eb)
 
+-- over positions that are pivots
+hop : (s s' t : AffineSpace) (i d : ℕ) → ((q : ℕ) → i ≤ q → q < i + d → bit t.pivots q ≡ 1) → Agreeing s s' t i → Agreeing s s' t (i + d)
+hop s s' t i zero on a = subst (Agreeing s s' t) (sym (add-zero i)) a
+hop s s' t i (suc d) on a =
+    let e : i + suc d ≡ (i + d) + 1 = omega arith in
+    subst (Agreeing s s' t) (sym e)
+    (agree-pivot s s' t (i + d) (hop s s' t i d (λ q l h. on q l (omega arith)) a) (on (i + d) (omega arith) (omega arith)))
+
+pub hop-to : (s s' t : AffineSpace) (i j : ℕ) → i ≤ j → ((q : ℕ) → i ≤ q → q < j → bit t.pivots q ≡ 1) → Agreeing s s' t i → Agreeing s s' t j
+hop-to s s' t i j l on a =
+    let e : i + (j - i) ≡ j = omega arith in
+    subst (Agreeing s s' t) e (hop s s' t i (j - i) (λ q h k. on q h (omega (arith, e))) a)
+
+-- the positions below `place` are passed, and of the others those are left that are no pivots of t
+pub record Reached (s s' t : AffineSpace) (left : ℕ) : Type 0 where
+  pub place : ℕ
+  pub within : place ≤ 48
+  pub agree : Agreeing s s' t place
+  pub passed : (q : ℕ) → q < place → bit left q ≡ 0
+  pub free : (q : ℕ) → place ≤ q → q < 48 → bit left q + bit t.pivots q ≡ 1
+
+-- the bits that are no pivots
+free-bit : (P q : ℕ) → P < 2 ^ 64 → q < 48 → bit (bit_not w64 P % 2 ^ 48) q + bit P q ≡ 1
+unfolding bit
+free-bit P q l h =
+    let e = bit-low 48 (bit_not w64 P) q h in
+    let f = bit_at_not w64 P q l (omega arith) in
+    omega (arith, e, f)
+
+pub reach-none : (s t : AffineSpace) (left : ℕ) → left ≡ bit_not w64 t.pivots % 2 ^ 48 → Reached s s t left
+reach-none s t left e =
+    let l : t.pivots < 2 ^ 64 = omega (arith, t.within) in
+    record {
+      place = 0;
+      within = omega arith;
+      agree = agree-none s t;
+      passed = λ q l. absurd (omega arith);
+      free = λ q l h. ap (λ x. bit x q + bit t.pivots q) e ∙ free-bit t.pivots q (omega (arith, t.within)) h;
+    }
+
+module _ (s s' t : AffineSpace) (left i left' : ℕ) (r : Reached s s' t left) (low : Lowest left i left') where
+  reached-to : r.place ≤ i
+  reached-to = elim (dec_lt i r.place) [ yes l ↦ absurd (not-both (bit left i) (r.passed i l) low.on) | no l ↦ omega arith ]
+
+  -- at the next position that is left, all below have been passed
+  pub reach-here : Agreeing s s' t i
+  reach-here = hop-to s s' t r.place i reached-to
+      (λ q l h. let z = low.least q h in let f = r.free q l (omega (arith, low.place)) in omega arith) r.agree
+
+  pub reach-off : bit t.pivots i ≡ 0
+  reach-off = let f = r.free i reached-to low.place in let o = low.on in omega arith
+
+  pub reach-next : (s'' : AffineSpace) → Agreeing s s'' t (i + 1) → Reached s s'' t left'
+  reach-next s'' a = record {
+    place = i + 1;
+    within = let l = low.place in omega arith;
+    agree = a;
+    passed = λ q l. elim (ℕ_discrete q i) [
+      | yes e ↦ ap (bit left') e ∙ gone-off left i left' low
+      | no ne ↦ gone-other left i left' q low ne ∙ low.least q (omega arith)
+    ];
+    free = λ q l h.
+        let k = reached-to in
+        let g = gone-other left i left' q low (λ e. omega arith) in
+        let f = r.free q (omega arith) h in
+        omega arith;
+  }
+
 -- combinations of rows have 48 bits, and so have the strings of a space
 pub comb-lt : (s : AffineSpace) (y : ℕ) → combination (row s.rows) (bit_and y s.pivots) < 2 ^ 48
 comb-lt s y = comb-under s 48 y s.within
@@ -168,3 +239,9 @@ agree-all s s' t i l a = record {
     | no k ↦ let f = a.still n (omega arith) u v in let e = ones-under n t.pivots v.0 in omega (arith, f, e)
   ];
 }
+
+pub reach-all : (s s' t : AffineSpace) (left : ℕ) → left ≡ 0 → Reached s s' t left → Both s s' t
+reach-all s s' t left e r =
+    agree-all s s' t 48 (omega arith)
+    (hop-to s s' t r.place 48 r.within (λ q l h.
+    let z = ap (λ x. bit x q) e ∙ bit-zero q in let f = r.free q l h in omega arith) r.agree)

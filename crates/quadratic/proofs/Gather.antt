@@ -1,54 +1,69 @@
 -- A word that is put together bit by bit, at the set bits of a mask.
-use Rattle.std.proofs.Common.{◌≡◌, ℕ, ◌*◌, ◌%◌, ◌^◌, ◌<◌, sym, ap, ◌∙◌, ap₂, mul-zero, mul-one, arith, pow_pos}
+use Rattle.std.proofs.Common.{◌≡◌, ℕ, ◌+◌, ◌*◌, ◌%◌, ◌^◌, ◌<◌, sym, ap, ◌∙◌, ap₂, mul-zero, mul-one, add-one, pow-suc, below_more, arith, pow_pos}
 use native.Mathlib.Decide.{ℕ_discrete}
 use lib.Bits.{bit_xor, xor_lt, xor_zero_l, xor_zero_r}
 use lib.Pow.{pow-lt}
 use Rattle.std.proofs.lemmas.Nat.{shl_whole}
-use Rattle.quadratic.specs.Bits.{bit}
-use Rattle.quadratic.proofs.Bitlaws.{bit-zero, bit-pow, bit-pow-other}
+use Rattle.quadratic.specs.Bits.{bit, Lowest}
+use Rattle.quadratic.proofs.Bitlaws.{bit_past, bit-zero, bit-pow, bit-pow-other}
 use Rattle.quadratic.proofs.Linear.{linear-pick, bit-linear}
-use Rattle.quadratic.proofs.Lowest.{set_below, drop-bit, dropped, undropped}
+use Rattle.quadratic.proofs.Lowest.{gone-off, gone-other}
 use Rattle.quadratic.proofs.Rows.{pick-lt}
 
+put-at : (l b p k : ℕ) → b < 2 → bit (bit_xor l (b * 2 ^ p)) k ≡ bit_xor (bit l k) (b * bit (2 ^ p) k)
+put-at l b p k s = bit-linear k l (b * 2 ^ p) ∙ ap (bit_xor (bit l k)) (linear-pick (λ x. bit x k) (bit-linear k) b (2 ^ p) s)
+
+-- a bit b is put in place p
+pub put-here : (l b p : ℕ) → b < 2 → bit l p ≡ 0 → bit (bit_xor l (b * 2 ^ p)) p ≡ b
+put-here l b p s off = put-at l b p p s ∙ ap₂ (λ x y. bit_xor x (b * y)) off (bit-pow p) ∙ xor_zero_l (b * 1) ∙ mul-one b
+
+pub put-other : (l b p k : ℕ) → b < 2 → (k ≡ p → ⊥) → bit (bit_xor l (b * 2 ^ p)) k ≡ bit l k
+put-other l b p k s ne = put-at l b p k s ∙ ap (λ y. bit_xor (bit l k) (b * y)) (bit-pow-other p k ne)
+    ∙ ap (bit_xor (bit l k)) (mul-zero b) ∙ xor_zero_r (bit l k)
+
 -- the bits of f stand in l but at the positions that are left, where l has none
-abbrev pub Gathered : (ℕ → ℕ) → ℕ → ℕ → Type 0
-Gathered f left l =
-    (left < 2 ^ 48)
-    × (l < 2 ^ 48)
-    × ((k : ℕ) → bit left k ≡ 0 → bit l k ≡ f k)
-    × ((k : ℕ) → bit left k ≡ 1 → bit l k ≡ 0)
+pub record Gathered (f : ℕ → ℕ) (left l : ℕ) : Type 0 where
+  pub below : l < 2 ^ 48
+  pub done : (k : ℕ) → bit left k ≡ 0 → bit l k ≡ f k
+  pub ahead : (k : ℕ) → bit left k ≡ 1 → bit l k ≡ 0
 
-pub gather_none : (f : ℕ → ℕ) (mask : ℕ) → mask < 2 ^ 48 → ((k : ℕ) → bit mask k ≡ 0 → f k ≡ 0) → Gathered f mask 0
-gather_none f mask h z = (h, pow_pos 48, λ k e. bit-zero k ∙ sym (z k e), λ k o. bit-zero k)
+pub gather_none : (f : ℕ → ℕ) (mask left : ℕ) → left ≡ mask → ((k : ℕ) → bit mask k ≡ 0 → f k ≡ 0) → Gathered f left 0
+gather_none f mask left e z = record {
+  below = pow_pos 48;
+  done = λ k o. bit-zero k ∙ sym (z k (sym (ap (λ x. bit x k) e) ∙ o));
+  ahead = λ k o. bit-zero k;
+}
 
-pub gather-more : (f : ℕ → ℕ) (left l a : ℕ) → bit left a ≡ 1 → f a < 2 → Gathered f left l
-    → Gathered f (bit_xor left (2 ^ a)) (bit_xor l (f a * 2 ^ a))
-gather-more f left l a o s d =
-    let e = drop-bit left a o in
-    let i = set_below 48 left a d.0 o in (
-      omega (arith, e, d.0),
-      xor_lt 48 l (f a * 2 ^ a) d.1 (pick-lt 48 (f a) (2 ^ a) s (pow-lt i)),
-      λ k z. elim (ℕ_discrete k a) [
-        | yes q ↦ ap (bit (bit_xor l (f a * 2 ^ a))) q ∙ at a ∙ ap₂ (λ x y. bit_xor x (f a * y)) (d.3 a o) (bit-pow a)
-            ∙ xor_zero_l (f a * 1) ∙ mul-one (f a) ∙ ap f (sym q)
-        | no ne ↦ other k ne ∙ d.2 k (sym (undropped left a k ne) ∙ z)
-      ],
-      λ k u. elim (ℕ_discrete k a) [
-        | yes q ↦ let z = dropped left a o in let w = ap (bit (bit_xor left (2 ^ a))) q in absurd (omega arith)
-        | no ne ↦ other k ne ∙ d.3 k (sym (undropped left a k ne) ∙ u)
-      ],
-    )
-  where
-    at : (k : ℕ) → bit (bit_xor l (f a * 2 ^ a)) k ≡ bit_xor (bit l k) (f a * bit (2 ^ a) k)
-    at k = bit-linear k l (f a * 2 ^ a) ∙ ap (bit_xor (bit l k)) (linear-pick (λ x. bit x k) (bit-linear k) (f a) (2 ^ a) s)
-
-    other : (k : ℕ) → (k ≡ a → ⊥) → bit (bit_xor l (f a * 2 ^ a)) k ≡ bit l k
-    other k ne = at k ∙ ap (λ y. bit_xor (bit l k) (f a * y)) (bit-pow-other a k ne) ∙ ap (bit_xor (bit l k)) (mul-zero (f a))
-        ∙ xor_zero_r (bit l k)
+pub gather-more : (f : ℕ → ℕ) (left l p left' : ℕ) → Lowest left p left' → f p < 2 → Gathered f left l
+    → Gathered f left' (bit_xor l (f p * 2 ^ p))
+gather-more f left l p left' low s d = record {
+  below = xor_lt 48 l (f p * 2 ^ p) d.below (pick-lt 48 (f p) (2 ^ p) s (pow-lt low.place));
+  done = λ k z. elim (ℕ_discrete k p) [
+    | yes q ↦ ap (bit (bit_xor l (f p * 2 ^ p))) q ∙ put-here l (f p) p s (d.ahead p low.on) ∙ ap f (sym q)
+    | no ne ↦ put-other l (f p) p k s ne ∙ d.done k (sym (gone-other left p left' k low ne) ∙ z)
+  ];
+  ahead = λ k u. elim (ℕ_discrete k p) [
+    | yes q ↦ let z = gone-off left p left' low in let w = ap (bit left') q in absurd (omega arith)
+    | no ne ↦ put-other l (f p) p k s ne ∙ d.ahead k (sym (gone-other left p left' k low ne) ∙ u)
+  ];
+}
 
 pub gather-all : (f : ℕ → ℕ) (left l : ℕ) → left ≡ 0 → Gathered f left l → (k : ℕ) → bit l k ≡ f k
-gather-all f left l e d k = d.2 k (ap (λ x. bit x k) e ∙ bit-zero k)
+gather-all f left l e d k = d.done k (ap (λ x. bit x k) e ∙ bit-zero k)
 
 -- a bit, shifted to its place
 pub placed : (b p : ℕ) → b < 2 → p < 48 → (b * 2 ^ p) % 2 ^ 64 ≡ b * 2 ^ p
 placed b p s l = shl_whole b 1 p 64 s (omega arith)
+
+-- l has the bits of f below n, and no others
+pub record Filled (f : ℕ → ℕ) (n l : ℕ) : Type 0 where
+  pub below : l < 2 ^ n
+  pub bits : (k : ℕ) → k < n → bit l k ≡ f k
+
+pub fill-more : (f : ℕ → ℕ) (n l b : ℕ) → b < 2 → b ≡ f n → Filled f n l → Filled f (n + 1) (bit_xor l (b * 2 ^ n))
+fill-more f n l b s e d =
+    let p = ap (λ k. 2 ^ k) (add-one n) ∙ pow-suc 2 n in
+    record {
+      below = xor_lt (n + 1) l (b * 2 ^ n) (omega (arith, p, d.below)) (pick-lt (n + 1) b (2 ^ n) s (pow-lt (omega arith)));
+      bits = below_more _ n (λ k h. put-other l b n k s (omega arith) ∙ d.bits k h) (put-here l b n s (bit_past n l n d.below (omega arith)) ∙ e);
+    }

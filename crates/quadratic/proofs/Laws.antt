@@ -1,9 +1,9 @@
 -- Combinations and membership in a space in reduced echelon form.
 use Rattle.std.proofs.Common.{◌≡◌, ℕ, zero, suc, ◌*◌, ◌%◌, ◌^◌, ◌<◌, Bool, true, false, eqb, sym, refl, ap, ◌∙◌, ap₂, lt_of_le_of_lt, mod-lt, one-mul, mul-zero, zero-mul, mul-one, arith, pow_pos}
 use native.Mathlib.Decide.{ℕ_discrete, dec_lt}
-use lib.Bits.{bit_and, bit_xor, xor_self, xor_zero_l, xor_zero_r, and_comm, and_self, and_le_r}
+use lib.Bits.{bit_and, bit_xor, xor_assoc, xor_comm, xor_self, xor_zero_l, xor_zero_r, and_comm, and_self, and_le_r}
 use lib.Count.{ones}
-use Rattle.quadratic.specs.Bits.{span, bit, dot}
+use Rattle.quadratic.specs.Bits.{span, bit, dot, Lowest}
 use Rattle.quadratic.proofs.Bitlaws.{digit, bit-lt, bit-and, bit-zero, bit-pow, bit-pow-other, bit-low}
 use Rattle.quadratic.proofs.Dots.{by_bits, and_assoc, dot-pow}
 use Rattle.quadratic.proofs.Lowest.{set_below}
@@ -115,6 +115,17 @@ comb-zero R = linear-zero (combination R) (comb-linear R)
 pub comb-low : (R : ℕ → ℕ) (c : ℕ) → combination R c ≡ combination R (c % 2 ^ 48)
 unfolding combination
 comb-low R c = span-low R c (c % 2 ^ 48) 48 (λ k l. sym (bit-low 48 c k l))
+
+-- the combination of a word, by its lowest bit
+pub comb-next : (R : ℕ → ℕ) (x p y s : ℕ) → Lowest x p y → bit_xor s (combination R x) ≡ bit_xor (bit_xor s (R p)) (combination R y)
+unfolding combination
+comb-next R x p y s low =
+    let back : x ≡ bit_xor y (2 ^ p) = sym (ap (λ z. bit_xor z (2 ^ p)) low.rest ∙ xor_assoc x (2 ^ p) (2 ^ p)
+    ∙ ap (bit_xor x) (xor_self (2 ^ p)) ∙ xor_zero_r x) in
+    ap (λ z. bit_xor s (combination R z)) back
+    ∙ ap (bit_xor s) (comb-linear R y (2 ^ p) ∙ ap (bit_xor (combination R y)) (span-one R p 48 low.place)
+    ∙ xor_comm (combination R y) (R p))
+    ∙ sym (xor_assoc s (R p) (combination R y))
 
 pub comb-is : (L : ℕ → ℕ) → Linear L → (R : ℕ → ℕ) → ((p : ℕ) → R p ≡ L (2 ^ p)) → (c : ℕ) → c < 2 ^ 48 → combination R c ≡ L c
 unfolding combination

@@ -1,11 +1,12 @@
 -- The lowest set bit of a mask, and the mask without it.
-use Rattle.std.proofs.Common.{◌≡◌, ℕ, zero, suc, ◌+◌, ◌*◌, ◌/◌, ◌%◌, ◌^◌, ◌<◌, ◌≤◌, ◌≢◌, sym, refl, ap, ◌∙◌, ap₂, add-zero, mod-eq_of_lt, one-mul, pow-suc, mul-zero, div-one, one-add, arith, pow_pos, shr-shr}
+use Rattle.std.proofs.Common.{◌≡◌, ℕ, zero, suc, ◌+◌, ◌-◌, ◌*◌, ◌/◌, ◌%◌, ◌^◌, ◌<◌, ◌≤◌, ◌≢◌, sym, refl, ap, ◌∙◌, ap₂, add-zero, mod-eq_of_lt, mul_comm, one-mul, pow-suc, mul-zero, div-one, one-add, arith, pow_pos, shr-shr}
 use native.Mathlib.Decide.{ℕ_discrete, dec_lt}
-use lib.Bits.{bit_and, bit_xor, xor_add_and, xor_lt}
+use native.Mathlib.Nat.{div-add-mod, mod_self, zero-mod}
+use lib.Bits.{bit_and, bit_xor, and_mask, and_mod, and_self, and_shr, xor_add_and, xor_assoc, xor_comm, xor_lt, xor_self, xor_zero_l}
 use lib.Count.{ones, count_trailing_zeros, under}
-use lib.Pow.{pow-lt}
-use Rattle.quadratic.specs.Bits.{bit, sum}
-use Rattle.quadratic.proofs.Bitlaws.{digit, bit-lt, bit-xor, bit-and, bit-pow, bit-pow-other, bit_past, ones_low}
+use lib.Pow.{high, low, pow-lt}
+use Rattle.quadratic.specs.Bits.{bit, sum, Lowest}
+use Rattle.quadratic.proofs.Bitlaws.{digit, same_low, bit-lt, bit-zero, bit-xor, bit-and, bit-pow, bit-pow-other, bit_past, ones_low}
 use Rattle.quadratic.proofs.Dots.{by_bits}
 
 -- digit i of the half is digit i + 1
@@ -53,15 +54,61 @@ drop-bit x a o =
           | no ne ↦ ap (λ b. bit x k * b) (bit-pow-other a k ne) ∙ mul-zero (bit x k) ∙ sym (bit-pow-other a k ne)
         ]
 
--- the mask falls with each bit that goes
-pub left-falls : (x a y : ℕ) → bit x a ≡ 1 → y ≡ bit_xor x (2 ^ a) → y < x
-left-falls x a y o e = let d = drop-bit x a o in let p = pow_pos a in omega (arith, d, p, e)
-
 pub dropped : (x a : ℕ) → bit x a ≡ 1 → bit (bit_xor x (2 ^ a)) a ≡ 0
 dropped x a o = bit-xor x (2 ^ a) a ∙ ap₂ (λ p q. (p + q) % 2) o (bit-pow a)
 
 pub undropped : (x a k : ℕ) → k ≢ a → bit (bit_xor x (2 ^ a)) k ≡ bit x k
 undropped x a k ne = bit-xor x (2 ^ a) k ∙ ap (λ q. (bit x k + q) % 2) (bit-pow-other a k ne) ∙ simp add-zero (mod-eq_of_lt (bit-lt x k))
+
+-- the lowest set bit goes where a word meets the one before it
+pub clear-lowest : (x p : ℕ) → bit x p ≡ 1 → ((q : ℕ) → q < p → bit x q ≡ 0) → bit_and x (x - 1) ≡ bit_xor x (2 ^ p)
+clear-lowest x p on none_below =
+    let y = bit_xor x (2 ^ p) in
+    let n = suc p in
+    let z = y / 2 ^ n in
+    let d : y + 2 ^ p ≡ x = drop-bit x p on in
+    let none : y % 2 ^ n ≡ 0 % 2 ^ n = same_low n y 0 (λ q l. below q l ∙ sym (bit-zero q)) in
+    let e : y ≡ z * 2 ^ n = whole y n (none ∙ zero-mod (2 ^ n)) in
+    let k = pow_pos p in
+    let half = pow-suc 2 p in
+    let xe : x ≡ z * 2 ^ n + 2 ^ p = sym d ∙ ap (λ v. v + 2 ^ p) e in
+    let we : x - 1 ≡ z * 2 ^ n + (2 ^ p - 1) = omega (arith, xe, k) in
+    let top : bit_and x (x - 1) / 2 ^ n ≡ z = and_shr x (x - 1) n
+    ∙ ap₂ bit_and (ap (λ v. v / 2 ^ n) xe ∙ high z n (omega (arith, half, k))) (ap (λ v. v / 2 ^ n) we ∙ high z n (omega (arith, half, k)))
+    ∙ and_self z in
+    let bottom : bit_and x (x - 1) % 2 ^ n ≡ 0 = and_mod x (x - 1) n
+    ∙ ap₂ bit_and (ap (λ v. v % 2 ^ n) xe ∙ low z n (omega (arith, half, k))) (ap (λ v. v % 2 ^ n) we ∙ low z n (omega (arith, half, k)))
+    ∙ and_mask (2 ^ p) p ∙ mod_self (2 ^ p) in
+    whole (bit_and x (x - 1)) n bottom ∙ ap (λ v. v * 2 ^ n) top ∙ sym e
+  where
+    below : (q : ℕ) → q < suc p → bit (bit_xor x (2 ^ p)) q ≡ 0
+    below q l =
+        elim (ℕ_discrete q p) [
+          | yes e ↦ ap (bit (bit_xor x (2 ^ p))) e ∙ dropped x p on
+          | no ne ↦ undropped x p q ne ∙ none_below q (omega arith)
+        ]
+
+    whole : (v n : ℕ) → v % 2 ^ n ≡ 0 → v ≡ v / 2 ^ n * 2 ^ n
+    whole v n r = sym (div-add-mod v (2 ^ n)) ∙ ap (λ m. 2 ^ n * (v / 2 ^ n) + m) r ∙ add-zero (2 ^ n * (v / 2 ^ n))
+        ∙ mul_comm (2 ^ n) (v / 2 ^ n)
+
+-- the mask falls with each bit that goes
+pub left-falls : (x a y : ℕ) → bit x a ≡ 1 → y ≡ bit_xor x (2 ^ a) → y < x
+left-falls x a y o e = let d = drop-bit x a o in let p = pow_pos a in omega (arith, d, p, e)
+
+-- a bit that goes from one mask to another
+pub still : (s x p : ℕ) → bit_xor (bit_xor s (2 ^ p)) (bit_xor x (2 ^ p)) ≡ bit_xor s x
+still s x p =
+    xor_assoc s (2 ^ p) (bit_xor x (2 ^ p))
+    ∙ ap (bit_xor s) (ap (bit_xor (2 ^ p)) (xor_comm x (2 ^ p)) ∙ sym (xor_assoc (2 ^ p) (2 ^ p) x)
+    ∙ ap (λ z. bit_xor z x) (xor_self (2 ^ p)) ∙ xor_zero_l x)
+
+-- the same of the lowest set bit
+pub gone-off : (x p y : ℕ) → Lowest x p y → bit y p ≡ 0
+gone-off x p y low = ap (λ z. bit z p) low.rest ∙ dropped x p low.on
+
+pub gone-other : (x p y k : ℕ) → Lowest x p y → k ≢ p → bit y k ≡ bit x k
+gone-other x p y k low ne = ap (λ z. bit z k) low.rest ∙ undropped x p k ne
 
 -- one bit less
 sum_drop : (f g : ℕ → ℕ) (a n : ℕ) → a < n → f a ≡ 1 → g a ≡ 0 → ((k : ℕ) → k ≢ a → g k ≡ f k) → sum g n + 1 ≡ sum f n
@@ -83,6 +130,13 @@ ones-drop x a l on =
     let e = sum_drop (bit x) (bit (bit_xor x (2 ^ a))) a 48 i on (dropped x a on) (λ k ne. undropped x a k ne) in
     ap (λ n. n + 1) (ap ones (sym (mod-eq_of_lt low)) ∙ ones_low 48 (bit_xor x (2 ^ a))) ∙ e ∙ sym (ones_low 48 x)
     ∙ ap ones (mod-eq_of_lt l)
+
+-- the word without its lowest set bit stays small, and has fewer set bits
+pub lowest-below : (x p y : ℕ) → x < 2 ^ 48 → bit x p ≡ 1 → y ≡ bit_xor x (2 ^ p) → y < 2 ^ 48
+lowest-below x p y l on e = let f = left-falls x p y on e in omega (arith, f, l)
+
+pub lowest-fewer : (x p y : ℕ) → x < 2 ^ 48 → bit x p ≡ 1 → y ≡ bit_xor x (2 ^ p) → ones y < ones x
+lowest-fewer x p y l on e = let d = ones-drop x p l on in let s = ap ones e in omega (arith, d, s)
 
 pub ones-zero : ones 0 ≡ 0
 unfolding ones

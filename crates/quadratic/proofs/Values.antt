@@ -1,9 +1,9 @@
 -- What the value of a form is known for, with its sum of 48 terms kept shut.
-use Rattle.std.proofs.Common.{◌≡◌, ℕ, zero, suc, ◌+◌, ◌*◌, ◌%◌, ◌<◌, refl, ap, mod-lt, mod-eq_of_lt, arith, lit<}
+use Rattle.std.proofs.Common.{◌≡◌, ℕ, zero, suc, ◌+◌, ◌*◌, ◌%◌, ◌^◌, ◌<◌, refl, ap, mod-lt, mod-eq_of_lt, arith, lit<}
 use Rattle.quadratic.specs.Bits.{bit, inner}
 use Rattle.quadratic.specs.Quadratic.{coef, link, quad}
-use Rattle.quadratic.proofs.Algebra.{quad-zero}
-use Rattle.quadratic.proofs.Bitlaws.{digit, bit-lt, bit-zero}
+use Rattle.quadratic.proofs.Algebra.{quad-same, quad-zero}
+use Rattle.quadratic.proofs.Bitlaws.{digit, bit-low, bit-lt, bit-zero}
 use Rattle.quadratic.specs.Value.{terms, value_at}
 use Rattle.quadratic.specs.declared.form.QuadraticForm.{QuadraticForm}
 
@@ -34,3 +34,9 @@ value-even f c = even-mod (terms f c 48) (f.phase % 2) (even-quad f.phase f.odd 
 pub value-zero : (f : QuadraticForm) → value_at f 0 ≡ f.phase % 8
 unfolding value_at
 value-zero f = ap (λ q. q % 8) (quad-zero f.phase (coef f.odd f.neg) (link f.coupling) (bit 0) 48 bit-zero)
+
+-- a form has 48 variables
+pub value-low : (f : QuadraticForm) (c : ℕ) → value_at f (c % 2 ^ 48) ≡ value_at f c
+unfolding value_at
+value-low f c = ap (λ q. q % 8)
+    (quad-same f.phase (coef f.odd f.neg) (link f.coupling) (bit (c % 2 ^ 48)) (bit c) 48 (λ k l. bit-low 48 c k l))

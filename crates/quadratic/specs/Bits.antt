@@ -1,5 +1,5 @@
 -- The bits of a string, the parity of what two strings share, and combinations of rows.
-use Rattle.std.specs.Prelude.{◌≡◌, ℕ, zero, suc, ◌+◌, ◌*◌, ◌/◌, ◌%◌, ◌^◌, Bool, true, false, List, bit_and, bit_xor, count_ones, slice_index}
+use Rattle.std.specs.Prelude.{◌≡◌, ℕ, zero, suc, ◌+◌, ◌*◌, ◌/◌, ◌%◌, ◌^◌, ◌<◌, Bool, true, false, List, bit_and, bit_xor, count_ones, slice_index}
 
 -- bit i of x
 unfoldable pub bit : ℕ → ℕ → ℕ
@@ -17,6 +17,13 @@ sum f (suc n) = sum f n + f n
 -- f 0 * g 0 + .. + f (n - 1) * g (n - 1)
 abbrev pub inner : (ℕ → ℕ) → (ℕ → ℕ) → ℕ → ℕ
 inner f g = sum (λ b. f b * g b)
+
+-- p is the place of the lowest set bit of x, and y is x without it
+pub record Lowest (x p y : ℕ) : Type 0 where
+  pub place : p < 48
+  pub on : bit x p ≡ 1
+  pub least : (q : ℕ) → q < p → bit x q ≡ 0
+  pub rest : y ≡ bit_xor x (2 ^ p)
 
 -- the table t' is t with the mask added to each row of `rows`
 abbrev pub RowsXor : List ℕ → List ℕ → ℕ → ℕ → Type 0

@@ -54,10 +54,6 @@ pub record Both (s s' t : AffineSpace) : Type 0 where
   pub all : (y : ℕ) → Member s y → Member t y → Member s' y
   pub wide : (n : ℕ) → Under s n → Under t n → count_ones s.pivots + count_ones t.pivots ≤ count_ones s'.pivots + n
 
-abbrev pub Confined : Bool → AffineSpace → AffineSpace → AffineSpace → Type 0
-Confined true s s' t = Both s s' t
-Confined false s s' t = (y : ℕ) → Member s y → Member t y → ⊥
-
 abbrev pub Shared : Option AffineSpace → AffineSpace → AffineSpace → Type 0
 Shared (Some s') s t = Both s s' t
 Shared None s t = (y : ℕ) → Member s y → Member t y → ⊥

@@ -1,6 +1,7 @@
-ghost use Rattle.std.specs.Prelude.{◌≡◌, ℕ, suc, ◌+◌, ◌*◌, ◌%◌, ◌^◌, ◌<◌, ◌≤◌, length, bit_xor, slice_index};
+ghost use Rattle.std.specs.Prelude.{◌≡◌, ℕ, suc, ◌+◌, ◌*◌, ◌%◌, ◌^◌, ◌<◌, ◌≤◌, length, bit_xor, count_ones, slice_index, MatchOption};
+ghost use Rattle.std.specs.Iterator.{at_most};
 ghost use Rattle.quadratic.specs.Numbering.{place, spread};
-ghost use Rattle.quadratic.specs.Bits.{bit as digit, dot as parity, inner, flag as numeral, RowsXor};
+ghost use Rattle.quadratic.specs.Bits.{bit as digit, dot as parity, flag as numeral, Lowest, RowsXor};
 
 // Bit i of x.
 pub(crate) fn bit(x: u64, i: usize) -> u64
@@ -17,12 +18,36 @@ pub(crate) fn dot(x: u64, y: u64) -> u64
     ((x & y).count_ones() & 1) as u64
 }
 
-// How many bits x and y share below n.
-pub(crate) fn shared_below(x: u64, y: u64, n: usize) -> u32
-    requires { n < 64 }
-    ensures { (result ≡ inner (digit x) (digit y) n) × (result ≤ 64) }
+// The places of the set bits of a word below bit 48, the lowest first.
+#[derive(Drop)]
+pub(crate) struct SetBits {
+    left: u64,
+    ghost inside: { left < 2 ^ 48 },
+}
+
+pub(crate) fn set_bits(x: u64) -> SetBits
+    ensures { result.left ≡ x % 2 ^ 48 }
 {
-    ((x & y) & ((1 << n) - 1)).count_ones()
+    SetBits {
+        left: x & ((1 << 48) - 1),
+    }
+}
+
+impl Iterator for SetBits {
+    type Item = usize;
+
+    ghost next_gives = { λ s p t. MatchOption p (s.left ≡ 0) (λ p. Lowest s.left p t.left) };
+
+    ghost remaining = { λ s. at_most (count_ones s.left) };
+
+    fn next(&mut self) -> Option<usize> {
+        if self.left == 0 {
+            return None;
+        }
+        let p = lowest(self.left);
+        self.left &= self.left - 1;
+        Some(p)
+    }
 }
 
 // The place of the lowest set bit of x.
@@ -57,11 +82,8 @@ pub(crate) fn xor_rows(table: &mut [u64; 48], rows: u64, mask: u64)
     requires { rows < 2 ^ 48 }
     ensures { RowsXor table.old table.new rows mask }
 {
-    let mut left = rows;
-    while left != 0 {
-        let a = lowest(left);
-        table[a] ^= mask;
-        left = turned(left, a);
+    for p in set_bits(rows) {
+        table[p] ^= mask;
     }
 }
 
@@ -69,8 +91,8 @@ pub(crate) fn xor_rows(table: &mut [u64; 48], rows: u64, mask: u64)
 pub(crate) fn xor_tables(table: &mut [u64; 48], other: &[u64; 48])
     ensures { (k : ℕ) → slice_index table.new k ≡ bit_xor (slice_index table.old k) (slice_index other.now k) }
 {
-    for a in 0..48 {
-        table[a] ^= other[a];
+    for (a, row) in table.iter_mut().enumerate() {
+        *row ^= other[a];
     }
 }
 
@@ -79,13 +101,11 @@ pub(crate) fn odd_rows(table: &[u64; 48], w: u64) -> u64
     ensures below { result < 2 ^ 48 }
     ensures bits { (p : ℕ) → p < 48 → digit result p ≡ parity w (slice_index table.now p) }
 {
-    let mut l = 0;
-    for p in 0..48 {
-        if dot(w, table[p]) == 1 {
-            l += 1 << p;
-        }
+    let mut odd = 0;
+    for (p, row) in table.iter().enumerate() {
+        odd ^= dot(w, *row) << p;
     }
-    l
+    odd
 }
 
 // A truth value as a bit.
@@ -100,9 +120,7 @@ pub(crate) fn nth(mask: u64, a: u64) -> Option<usize>
     ensures { result ≡ place 48 mask a }
 {
     let mut left = a;
-    let mut p = 48;
-    while p > 0 {
-        p -= 1;
+    for p in (0..48).rev() {
         if bit(mask, p) == 1 {
             if left == 1 {
                 return Some(p);
@@ -119,9 +137,7 @@ pub(crate) fn deposit(mask: u64, c: u64) -> u64
 {
     let mut sum = 0;
     let mut left = c;
-    let mut p = 48;
-    while p > 0 {
-        p -= 1;
+    for p in (0..48).rev() {
         if bit(mask, p) == 1 {
             sum += (left % 2) << p;
             left /= 2;

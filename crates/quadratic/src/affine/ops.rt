@@ -2,10 +2,10 @@ ghost use Rattle.std.specs.Prelude.{◌≡◌, ℕ, suc, ◌*◌, ◌^◌, ◌<�
 ghost use Rattle.quadratic.specs.Bits.{bit as digit, dot as parity};
 ghost use Rattle.quadratic.specs.Bits.{flag as numeral};
 ghost use Rattle.quadratic.specs.Echelon.{row, combination as combined, reduced};
-ghost use Rattle.quadratic.specs.Strings.{Member, Half, Cut, OneLess, Moved, Doubled, Confined, Shared, Fitting, Appended, Shifted};
+ghost use Rattle.quadratic.specs.Strings.{Member, Half, Cut, OneLess, Moved, Doubled, Shared, Fitting, Appended, Shifted};
 
 use super::{AffineSpace, Outcome};
-use crate::bits::{bit, dot, flag, highest, lowest, turned, xor_rows};
+use crate::bits::{bit, dot, flag, highest, lowest, set_bits, turned, xor_rows};
 
 impl AffineSpace {
     // The space of the zero string alone.
@@ -46,10 +46,8 @@ impl AffineSpace {
         ensures { result ≡ combined (row self.now.rows) c }
     {
         let mut sum = 0;
-        for p in 0..48 {
-            if bit(c, p) == 1 {
-                sum ^= self.rows[p];
-            }
+        for p in set_bits(c) {
+            sum ^= self.rows[p];
         }
         sum
     }
@@ -75,11 +73,8 @@ impl AffineSpace {
         ensures bits { (p : ℕ) → digit result p ≡ parity w (row self.now.rows p) }
     {
         let mut l = 0;
-        let mut left = self.pivots;
-        while left != 0 {
-            let p = lowest(left);
+        for p in set_bits(self.pivots) {
             l ^= dot(w, self.rows[p]) << p;
-            left = turned(left, p);
         }
         l
     }
@@ -107,11 +102,8 @@ impl AffineSpace {
         ensures bits { (i p : ℕ) → digit (row result i) p ≡ digit (row self.now.rows p) i }
     {
         let mut table = [0; 48];
-        let mut left = self.pivots;
-        while left != 0 {
-            let p = lowest(left);
+        for p in set_bits(self.pivots) {
             xor_rows(&mut table, self.rows[p], turned(0, p));
-            left = turned(left, p);
         }
         table
     }
@@ -160,31 +152,18 @@ impl AffineSpace {
         self.shift ^= turned(self.rows[i], i);
     }
 
-    // Keeps the strings that are in the other space too; false where there is none.
-    pub(crate) fn confine(&mut self, other: &AffineSpace) -> bool
-        ensures { Confined result self.old self.new other.now }
+    // Keeps the strings that are in the other space too, if there is one.
+    fn confine(mut self, other: &AffineSpace) -> Option<AffineSpace>
+        ensures { Shared result self other.now }
     {
         let columns = other.columns();
-        for i in 0..48 {
-            if bit(other.pivots, i) == 0 {
-                let w = turned(columns[i], i);
-                if let Outcome::Empty = self.restrict(w, bit(other.shift, i) == 1) {
-                    return false;
-                }
+        for i in set_bits(!other.pivots) {
+            let w = turned(columns[i], i);
+            if let Outcome::Empty = self.restrict(w, bit(other.shift, i) == 1) {
+                return None;
             }
         }
-        true
-    }
-
-    fn confined(&self, other: &AffineSpace) -> Option<AffineSpace>
-        ensures { Shared result self.now other.now }
-    {
-        let mut space = *self;
-        if space.confine(other) {
-            Some(space)
-        } else {
-            None
-        }
+        Some(self)
     }
 
     // The strings that are in both spaces, if there is one. The smaller space is confined to the larger, which asks less of it.
@@ -192,9 +171,9 @@ impl AffineSpace {
         ensures { Shared result self.now other.now }
     {
         if self.pivots.count_ones() > other.pivots.count_ones() {
-            return other.confined(self);
+            return other.confine(self);
         }
-        self.confined(other)
+        self.confine(other)
     }
 
     // Adds the direction f, which has no bit at a pivot, and whose highest bit is p.

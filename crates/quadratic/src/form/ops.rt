@@ -4,21 +4,20 @@ ghost use Rattle.quadratic.specs.Quadratic.{coef, link};
 ghost use Rattle.quadratic.specs.Value.{value_at};
 
 use super::QuadraticForm;
-use crate::bits::{bit, dot, shared_below, xor_rows, xor_tables};
+use crate::bits::{bit, dot, set_bits, turned, xor_rows, xor_tables};
 
 impl QuadraticForm {
     // The form's value at the point c.
     pub(crate) fn value(&self, c: u64) -> u8
         ensures { (result ≡ value_at self.now c) × (result < 8) }
     {
-        let mut sum = self.phase as u64;
-        for a in 0..48 {
-            if bit(c, a) == 1 {
-                let own = 2 * bit(self.odd, a) + 4 * bit(self.neg, a);
-                sum = (sum + own + 4 * shared_below(self.coupling[a], c, a) as u64) % 8;
-            }
+        let mut sum = self.phase;
+        let mut seen = 0;
+        for a in set_bits(c) {
+            sum = (sum + self.slope(a, seen)) % 8;
+            seen = turned(seen, a);
         }
-        sum as u8
+        sum
     }
 
     // Adds 4 times the parity of the mask.

@@ -10,7 +10,7 @@ ghost use Rattle.quadratic.specs.Value.{value_at, Sees};
 
 use super::PhasedSpace;
 use crate::affine::AffineSpace;
-use crate::bits::{bit, deposit, lowest, nth, turned};
+use crate::bits::{bit, deposit, nth, set_bits, turned};
 use crate::form::QuadraticForm;
 
 impl PhasedSpace {
@@ -217,10 +217,7 @@ pub(crate) fn settle(form: &mut QuadraticForm, space: &AffineSpace, gone: u64)
         return;
     }
     let columns = space.columns();
-    let mut left = gone;
-    while left != 0 {
-        let i = lowest(left);
+    for i in set_bits(gone) {
         form.fix(i, columns[i], bit(space.shift(), i));
-        left = turned(left, i);
     }
 }

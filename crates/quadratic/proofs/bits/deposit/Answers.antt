@@ -21,7 +21,7 @@ pub overflow_add-sum : goal.overflow_add-sum
 overflow_add-sum c =
     let p = c.loop-p.p in
     let x = c.loop-p.left % 2 in
-    let r = room c.loop-p.sum p x c.loop-p-test.true (omega arith) c.loop-p.invariant.1 in
+    let r = room c.loop-p.sum p x c.loop-p-test.true (omega arith) c.loop-p.invariant.room in
     let e = shifted x (p - 1) (omega arith) (omega arith) in
     omega (arith, r, e)
 
@@ -33,13 +33,13 @@ loop-p-preserved-then-bit-eq1 c =
     let sum = c.loop-p.sum in
     let e : p ≡ suc (p - 1) = omega arith in
     let on : bit mask (p - 1) ≡ 1 = sym c.bit.ensures.0 ∙ c.if-bit-eq1.true in
-    let put = shifted (a % 2) (p - 1) (omega arith) (omega arith) in (
-      c.loop-p.invariant.0 ∙ ap (λ n. sum + spread n mask a) e ∙ ap (◌+◌ sum) (spread-on (p - 1) mask a on)
+    let put = shifted (a % 2) (p - 1) (omega arith) (omega arith) in
+    record {
+      parts = c.loop-p.invariant.parts ∙ ap (λ n. sum + spread n mask a) e ∙ ap (◌+◌ sum) (spread-on (p - 1) mask a on)
           ∙ sym (add_assoc sum (a % 2 * 2 ^ (p - 1)) (spread (p - 1) mask (a / 2)))
-          ∙ ap (λ x. sum + x + spread (p - 1) mask (a / 2)) (sym put),
-      rw put (room sum p (a % 2) c.loop-p-test.true (omega arith) c.loop-p.invariant.1),
-      omega arith,
-    )
+          ∙ ap (λ x. sum + x + spread (p - 1) mask (a / 2)) (sym put);
+      room = rw put (room sum p (a % 2) c.loop-p-test.true (omega arith) c.loop-p.invariant.room);
+    }
 
 pub loop-p-preserved : goal.loop-p-preserved
 loop-p-preserved c =
@@ -48,14 +48,15 @@ loop-p-preserved c =
     let sum = c.loop-p.sum in
     let e : p ≡ suc (p - 1) = omega arith in
     let half = ap (λ n. 2 ^ n) e ∙ pow-suc 2 (p - 1) in
-    let off = λ (on : bit mask (p - 1) ≡ 1). c.if-bit-eq1.false (c.bit.ensures.0 ∙ on) in (
-      c.loop-p.invariant.0 ∙ ap (λ n. sum + spread n mask c.loop-p.left) e ∙ ap (◌+◌ sum) (spread-off (p - 1) mask c.loop-p.left off),
-      omega (arith, half, c.loop-p.invariant.1),
-      omega arith,
-    )
+    let off = λ (on : bit mask (p - 1) ≡ 1). c.if-bit-eq1.false (c.bit.ensures.0 ∙ on) in
+    record {
+      parts = c.loop-p.invariant.parts ∙ ap (λ n. sum + spread n mask c.loop-p.left) e
+          ∙ ap (◌+◌ sum) (spread-off (p - 1) mask c.loop-p.left off);
+      room = omega (arith, half, c.loop-p.invariant.room);
+    }
 
 pub returns : goal.returns
 returns c =
     let e : c.loop-p.p ≡ 0 = omega arith in
-    sym (c.loop-p.invariant.0 ∙ ap (◌+◌ c.loop-p.sum) (spread_end c.loop-p.p c.args.mask c.loop-p.left e)
+    sym (c.loop-p.invariant.parts ∙ ap (◌+◌ c.loop-p.sum) (spread_end c.loop-p.p c.args.mask c.loop-p.left e)
     ∙ add-zero c.loop-p.sum)

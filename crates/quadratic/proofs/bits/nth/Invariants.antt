@@ -1,10 +1,7 @@
-use Rattle.std.proofs.Common.{◌≡◌, ◌≤◌}
+use Rattle.std.proofs.Common.{◌≡◌}
 use Rattle.quadratic.specs.Numbering.{place}
 use Rattle.quadratic.proofs.bits.nth.Given as goal
 
 -- what is left to find is to be found among the positions that are left
 abbrev pub invariant-loop-p : goal.invariant-loop-p
-invariant-loop-p l = (place 48 l.mask l.initial.left ≡ place l.p l.mask l.left) × (l.p ≤ 48)
-
-abbrev pub decreases-loop-p : goal.decreases-loop-p
-decreases-loop-p l = l.p
+invariant-loop-p l = place 48 l.mask l.a ≡ place l.p l.mask l.left

@@ -1,44 +1,36 @@
-use Rattle.std.proofs.Common.{◌≡◌, ℕ, ◌+◌, ◌*◌, ◌%◌, sym, ap, ◌∙◌, le_antisymm, add-one, arith}
-use Rattle.quadratic.specs.Bits.{bit, inner}
-use Rattle.quadratic.specs.Quadratic.{coef, link}
-use Rattle.quadratic.specs.Value.{terms, value_at}
-use Rattle.quadratic.specs.declared.form.QuadraticForm.{QuadraticForm}
-use Rattle.quadratic.proofs.Values.{value-lt}
+use Rattle.std.proofs.Common.{◌+◌, ◌%◌, sym, ap, ◌∙◌, ap₂, mod-eq_of_lt, arith}
+use lib.Bits.{bit_xor, xor_zero_l, xor_zero_r}
+use Rattle.quadratic.specs.Value.{value_at}
+use Rattle.quadratic.proofs.Lowest.{still}
+use Rattle.quadratic.proofs.Values.{value-low, value-lt, value-zero}
 use Rattle.quadratic.proofs.form.QuadraticForm.value.Goals as goal
-use Rattle.quadratic.proofs.form.QuadraticForm.value.Goals.{then-bit-eq1, else-bit-eq1}
 
-on : (s q b o n x o' n' x' : ℕ) → s ≡ q % 8 → b ≡ 1 → o' ≡ o → n' ≡ n → x' ≡ x → (s + (2 * o' + 4 * n') + 4 * x') % 8
-    ≡ (q + b * (2 * o + 4 * n + 4 * x)) % 8
-on s q b o n x o' n' x' e h p r t = rw (h, p, r, t) (omega arith)
+pub loop-a-init : goal.loop-a-init
+loop-a-init c =
+    let f = c.args.self.now in
+    let left = c.into_iter-a-iterator.result.left in
+    record {
+      value = sym (value-zero f ∙ mod-eq_of_lt f.phased);
+      seen = xor_zero_l left ∙ ap (λ x. x.left) c.into_iter-a-iterator.ensures.into_iter_gives ∙ c.set_bits-a-items.ensures;
+    }
 
-off : (s q y b : ℕ) → s ≡ q % 8 → b ≡ 0 → s ≡ (q + b * y) % 8
-off s q y b e o = rw o (omega arith)
+pub overflow_add-sum : goal.overflow_add-sum
+overflow_add-sum c = let l = value-lt c.args.self.now c.loop-a.seen in omega (arith, l, c.loop-a.invariant.value)
 
 pub loop-a-preserved : goal.loop-a-preserved
 loop-a-preserved c =
     let f = c.args.self.now in
-    let p = c.args.c in
-    let a = c.loop-a.a in
-    let x = inner (link f.coupling a) (bit p) a in
-    let q = terms f p a in
-    let d = coef f.odd f.neg a in
-    rw add-one (elim c.if-bit-eq1.branch [
-      | then-bit-eq1 w ↦
-          w.sum-is
-          ∙ on c.loop-a.sum q (bit p a) (bit f.odd a) (bit f.neg a) x w.bit-then-bit-eq1.result
-          w.bit-then-bit-eq1-2.result w.shared_below.result
-          c.loop-a.invariant (sym c.bit.ensures.0 ∙ w.if-bit-eq1.true) w.bit-then-bit-eq1.ensures.0
-          w.bit-then-bit-eq1-2.ensures.0 w.shared_below.ensures.0
-      | else-bit-eq1 w ↦ w.sum-is ∙ off c.loop-a.sum q (d + 4 * x) (bit p a) c.loop-a.invariant (omega arith)
-    ])
-
-answer : (f : QuadraticForm) (p s a : ℕ) → s ≡ terms f p a % 8 → a ≡ 48 → s ≡ value_at f p
-unfolding value_at
-answer f p s a e n = e ∙ ap (λ n. terms f p n % 8) n
+    let i = c.loop-a.invariant in
+    record {
+      value = ap (λ v. (v + c.slope.result) % 8) i.value ∙ sym (ap (value_at f) c.turned-seen.ensures ∙ c.slope.ensures.value);
+      seen = ap₂ bit_xor c.turned-seen.ensures c.in-Some.ensures.steps.rest
+          ∙ still c.loop-a.seen c.loop-a.a-iterator.left c.in-Some.a ∙ i.seen;
+    }
 
 pub returns : goal.returns
 returns c =
     let f = c.args.self.now in
-    let p = c.args.c in
-    let e = answer f p c.loop-a.sum c.loop-a.a c.loop-a.invariant (le_antisymm c.loop-a.auto.a-end c.loop-a-test.false) in
-    (e, rw e (value-lt f p))
+    let i = c.loop-a.invariant in
+    let all = sym (xor_zero_r c.loop-a.seen) ∙ ap (bit_xor c.loop-a.seen) (sym c.in-None.ensures.steps) ∙ i.seen in
+    let e = i.value ∙ ap (value_at f) all ∙ value-low f c.args.c in
+    (e, rw e (value-lt f c.args.c))
