@@ -1,5 +1,5 @@
 -- What each command answers, and what it makes of what it is given.
-use Rattle.std.specs.Prelude.{◌≡◌, ℕ, ◌-◌, ◌<◌, ◌≤◌, Bool, List, length, take, ℤ, MatchOption, T, slice_index}
+use Rattle.std.specs.Prelude.{◌≡◌, ℕ, ◌-◌, ◌<◌, ◌≤◌, Bool, List, length, take, ℤ, MatchOption, OnOk, OnErr, T, slice_index}
 use Rattle.archive.specs.Archives.{count_of, archive_fault, part_of, place_after}
 use Rattle.archive.specs.Denials.{denied}
 use Rattle.archive.specs.Faults.{archive_report, state_report}
@@ -32,7 +32,7 @@ use Rattle.console.specs.declared.command.RingName.{RingName}
 -- the state of n qubits in the place of s, or s where n is refused
 abbrev pub Opens : ℕ → StabilizerState → Answer → StabilizerState → Type 0
 Opens n s a s' =
-    Answers call_answer (λ r. (answer_of r ≡ open_number n) × (answer_of r ≡ 0 → Opened s' n) × (0 < answer_of r → s' ≡ s)) a
+    Answers call_answer (λ r. (answer_of r ≡ open_number n) × OnOk r (Opened s' n) × OnErr r (s' ≡ s)) a
 
 -- the gate of a kind on the qubits j and l
 abbrev pub Gates : ℕ → ℕ → ℕ → StabilizerState → Answer → StabilizerState → Type 0

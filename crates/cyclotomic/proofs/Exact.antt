@@ -1,14 +1,15 @@
 -- The exact values of scalars: how they turn, what their conjugates and products are, and that they tell scalars apart.
-use Rattle.std.proofs.Common.{◌≡◌, ℕ, zero, suc, ◌+◌, ◌*◌, ◌%◌, ◌<◌, ℤ, pos, negsuc, ◌+ℤ◌, sym, refl, ap, ◌∙◌, ap₂, inl, inr, mod-eq_of_lt, arith}
+use Rattle.std.proofs.Common.{◌≡◌, ℕ, Option, Some, None, zero, suc, ◌+◌, ◌-◌, ◌*◌, ◌%◌, ◌<◌, ℤ, pos, negsuc, ◌+ℤ◌, sym, refl, ap, ◌∙◌, ap₂, inl, inr, mod-eq_of_lt, arith}
 use borrow.Author.Differences.{ints}
 use Rattle.cyclotomic.specs.Ring.{wpow, rpow, exact}
 use Rattle.cyclotomic.specs.Adjoin.{Omega, omegas, conj}
 use Rattle.cyclotomic.specs.Adjoin
 use Rattle.cyclotomic.specs.CommFacts
-use Rattle.cyclotomic.specs.Exact.{scaled}
+use Rattle.cyclotomic.specs.Exact.{scaled, mirrored}
 pub use Rattle.cyclotomic.specs.Exact.{Floor}
-use Rattle.cyclotomic.specs.Scalars.{Triple, triple_of, nought, unit, Kind, powered, chosen}
+use Rattle.cyclotomic.specs.Scalars.{Triple, triple_of, triple_of_term, nought, unit, Kind, powered, chosen}
 use Rattle.cyclotomic.specs.declared.scalar.Scalar.{Scalar}
+use Rattle.cyclotomic.specs.declared.scalar.Term.{Term}
 use Rattle.cyclotomic.proofs.Conj.{conj-hom, conj-wpow}
 use Rattle.cyclotomic.proofs.Ints.{int_laws, omega-laws}
 use Rattle.cyclotomic.proofs.RingFacts
@@ -20,13 +21,18 @@ bar = conj Adjoin.ints
 infixl 70 ◌⊗◌
 open omegas use {nil, one, times as ◌⊗◌}
 
+-- the triple of a scalar is one that there is
 pub scalar-kind : (x : Scalar) → Kind (triple_of x)
-scalar-kind x = go x.epsilon x.power x.turn x.digit x.eighths x.still x.unturned
+scalar-kind x = go x.term
   where
-    go : (d : ℕ) (p : ℤ) (m : ℕ) → d < 2 → m < 8 → (d ≡ 0 → p ≡ pos 0) → (d ≡ 0 → m ≡ 0) → Kind (d, p, m)
-    go zero p m l e hp hm = inl (ap₂ (λ p m. (0, p, m)) (hp refl) (hm refl))
-    go (suc zero) p m l e hp hm = inr (refl, e)
-    go (suc (suc d)) p m l e hp hm = absurd (omega arith)
+    go : (t : Option Term) → Kind (triple_of_term t)
+    go None = inl refl
+    go (Some t) = inr (refl, t.eighths)
+
+-- a triple turns by less than eight eighths
+pub kind-turn : (x : Triple) → Kind x → x.2 < 8
+kind-turn x (inl z) = let e = ap (λ y. y.2) z in omega arith
+kind-turn x (inr h) = h.1
 
 -- ---- values
 
@@ -84,6 +90,9 @@ pub scaled-bar : (n d : ℕ) (p : ℤ) (m j : ℕ) → (m + j) % 8 ≡ 0 → bar
 unfolding scaled
 scaled-bar n zero p m j e = bar-nil
 scaled-bar n (suc d) p m j e = powered-bar (pos n +ℤ p) m j e
+
+pub scaled-mirrored : (n : ℕ) (x : Triple) → Kind x → scaled n (mirrored x) ≡ bar (scaled n x)
+scaled-mirrored n x k = sym (scaled-bar n x.0 x.1 x.2 ((8 - x.2) % 8) (omega (arith, kind-turn x k)))
 
 -- the conjugate of one scalar times another: the powers are added, and m + j eighths are l
 pub scaled-product : (a b i k : ℕ) (p q : ℤ) (m l j : ℕ) → pos a +ℤ p ≡ pos i → pos b +ℤ q ≡ pos k → (m + j) % 8 ≡ l % 8

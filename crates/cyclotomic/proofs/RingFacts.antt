@@ -1,7 +1,7 @@
 use Rattle.std.proofs.Common.{◌≡◌, ℕ, zero, suc, ◌+◌, ◌*◌, ◌/◌, ◌%◌, ◌^◌, ◌<◌, sym, refl, ap, ◌∙◌, ap₂, suc-add, zero-add, arith}
 use Rattle.cyclotomic.specs.Ring.{Ops, RingLaws, wpow, root, two, rpow, exact}
 use Rattle.cyclotomic.specs.CommFacts.{nil_plus, one_times, plus_times, cancel, neg_times, neg_neg, middle, times_middle}
-use Rattle.cyclotomic.specs.CommFacts.{two_times, plus_left_comm}
+use Rattle.cyclotomic.specs.CommFacts.{two_times}
 use Rattle.cyclotomic.proofs.Maps.{num, num_plus}
 
 -- what holds at 0 to 7 holds below 8

@@ -10,3 +10,4 @@ pub mod Scalars
 pub mod Sum
 pub mod Exact
 pub mod Signed
+pub mod Texts

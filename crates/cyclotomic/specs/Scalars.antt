@@ -1,17 +1,22 @@
 -- Scalars as triples (ε, p, m), and the number that one stands for in a ring.
-use Rattle.std.specs.Prelude.{◌≡◌, ℕ, zero, suc, ◌%◌, ◌<◌, ◌⊎◌, ℤ, pos, negsuc, ◌<ℤ◌}
+use Rattle.std.specs.Prelude.{◌≡◌, ℕ, zero, suc, ◌%◌, ◌<◌, ◌⊎◌, ℤ, pos, negsuc, ◌<ℤ◌, Option, Some, None}
 use Rattle.cyclotomic.specs.Ring.{Ops, exact}
 use Rattle.cyclotomic.specs.declared.scalar.Scalar.{Scalar}
+use Rattle.cyclotomic.specs.declared.scalar.Term.{Term}
 
 -- (ε, p, m) stands for ε · 2^(p/2) · ω^m
 abbrev pub Triple : Type 0
 Triple = ℕ × ℤ × ℕ
 
-abbrev pub triple_of : Scalar → Triple
-triple_of x = (x.epsilon, x.power, x.turn)
-
 abbrev pub nought : Triple
 nought = (0, pos 0, 0)
+
+abbrev pub triple_of_term : Option Term → Triple
+triple_of_term None = nought
+triple_of_term (Some t) = (1, t.power, t.turn)
+
+abbrev pub triple_of : Scalar → Triple
+triple_of x = triple_of_term x.term
 
 abbrev pub unit : ℤ → ℕ → Triple
 unit p m = (1, p, m % 8)

@@ -1,5 +1,5 @@
 -- Sums over the numbers below n.
-use Rattle.std.specs.Prelude.{◌≡◌, ℕ, zero, suc, ◌<◌, Bool, true, false}
+use Rattle.std.specs.Prelude.{ℕ, zero, suc, Bool, true, false}
 use Rattle.cyclotomic.specs.Ring.{Ops}
 
 abbrev pub sum_to : {R : Type 0} → Ops R → (ℕ → R) → ℕ → R

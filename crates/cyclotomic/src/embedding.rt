@@ -1,4 +1,4 @@
-ghost use Rattle.std.specs.Prelude.{◌≡◌, ℕ, ◌<◌, MatchResult};
+ghost use Rattle.std.specs.Prelude.{◌≡◌, ◌↔◌, ℕ, ◌<◌, IsErr, IfErr, IfOk};
 ghost use Rattle.cyclotomic.specs.Refusals.{number_of};
 ghost use Rattle.cyclotomic.specs.Ring.{power as power_of, root as root_of};
 ghost use Rattle.cyclotomic.specs.Scalars.{triple_of, Negative, embedded};
@@ -33,8 +33,9 @@ pub fn root<R: Ring>() -> R
 
 // The scalar as a value of the ring: the ring's zero, or root^power · omega^turn.
 pub fn embed<R: Ring>(x: Scalar) -> Result<R, Refusal>
-    ensures { MatchResult result (λ v. (Negative (triple_of x)
-        → ⊥) × (R.value v ≡ embedded R.ops (triple_of x))) (λ e. Negative (triple_of x) × (number_of e ≡ 25)) }
+    ensures refused { IsErr result ↔ Negative (triple_of x) }
+    ensures number { IfErr result (λ e. number_of e ≡ 25) }
+    ensures value { IfOk result (λ v. R.value v ≡ embedded R.ops (triple_of x)) }
 {
     if x.power() < 0 {
         return Err(Refusal::NegativePower);

@@ -1,4 +1,4 @@
-ghost use Rattle.std.specs.Prelude.{◌≡◌, ℕ, ◌<◌};
+ghost use Rattle.std.specs.Prelude.{◌≡◌, ℕ, ◌<◌, ◌%◌};
 ghost use Rattle.std.proofs.Common.{lit<};
 ghost use Rattle.cyclotomic.specs.Columns.{hex_at};
 ghost use Rattle.cyclotomic.specs.Modular.{Below as Residue, seventeen, low};
@@ -11,6 +11,17 @@ use crate::ring::{Column, Ring};
 pub struct Mod17 {
     residue: u8,
     ghost small: { residue < 17 },
+}
+
+impl Mod17 {
+    // What a number is modulo 17.
+    fn reduced(number: u16) -> Mod17
+        ensures { result.residue ≡ number % 17 }
+    {
+        Mod17 {
+            residue: (number % 17) as u8,
+        }
+    }
 }
 
 impl Ring for Mod17 {
@@ -35,39 +46,28 @@ impl Ring for Mod17 {
     }
 
     fn plus(self, other: Mod17) -> Mod17 {
-        Mod17 {
-            residue: (self.residue + other.residue) % 17,
-        }
+        Mod17::reduced(self.residue as u16 + other.residue as u16)
     }
 
     fn negative(self) -> Mod17 {
-        Mod17 {
-            residue: (17 - self.residue) % 17,
-        }
+        Mod17::reduced(17 - self.residue as u16)
     }
 
     fn times(self, other: Mod17) -> Mod17 {
-        let product = self.residue as u16 * other.residue as u16;
-        Mod17 {
-            residue: (product % 17) as u8,
-        }
+        Mod17::reduced(self.residue as u16 * other.residue as u16)
     }
 
     fn equal(self, other: Mod17) -> bool {
-        self.residue == other.residue
+        self == other
     }
 }
 
 impl Column for Mod17 {
-    ghost digits = { 2 };
+    ghost DIGITS = { 2 };
 
     ghost digit_of = { λ x i. hex_at 2 x.residue i };
 
     const DIGITS: usize = 2;
-
-    fn width() -> usize {
-        Self::DIGITS
-    }
 
     fn digit(self, place: usize) -> u8 {
         match place {

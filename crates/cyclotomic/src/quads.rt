@@ -6,6 +6,7 @@ ghost use Rattle.cyclotomic.specs.Modular.{Quad, quads as modular, low};
 ghost use Rattle.cyclotomic.specs.ModularLaws.{quad_laws};
 
 use crate::ring::{Column, Ring};
+use std::num::Wrapping;
 
 // a0 + a1 ω + a2 ω^2 + a3 ω^3, each coordinate modulo 2^64.
 #[derive(Clone, Copy, Debug, PartialEq, Eq)]
@@ -71,47 +72,37 @@ impl Ring for Cyclotomic64 {
     }
 
     fn times(self, other: Cyclotomic64) -> Cyclotomic64 {
-        let (a, b, c, d) = (self.a0, self.a1, self.a2, self.a3);
-        let (e, f, g, h) = (other.a0, other.a1, other.a2, other.a3);
+        let (a, b, c, d) = self.wrapping();
+        let (e, f, g, h) = other.wrapping();
         Cyclotomic64 {
-            a0: a
-                .wrapping_mul(e)
-                .wrapping_sub(c.wrapping_mul(g))
-                .wrapping_sub(b.wrapping_mul(h))
-                .wrapping_sub(d.wrapping_mul(f)),
-            a1: a
-                .wrapping_mul(f)
-                .wrapping_sub(c.wrapping_mul(h))
-                .wrapping_add(b.wrapping_mul(e))
-                .wrapping_sub(d.wrapping_mul(g)),
-            a2: a
-                .wrapping_mul(g)
-                .wrapping_add(c.wrapping_mul(e))
-                .wrapping_add(b.wrapping_mul(f))
-                .wrapping_sub(d.wrapping_mul(h)),
-            a3: a
-                .wrapping_mul(h)
-                .wrapping_add(c.wrapping_mul(f))
-                .wrapping_add(b.wrapping_mul(g))
-                .wrapping_add(d.wrapping_mul(e)),
+            a0: (a * e - c * g - b * h - d * f).0,
+            a1: (a * f - c * h + b * e - d * g).0,
+            a2: (a * g + c * e + b * f - d * h).0,
+            a3: (a * h + c * f + b * g + d * e).0,
         }
     }
 
     fn equal(self, other: Cyclotomic64) -> bool {
-        if self.a0 != other.a0 {
-            return false;
-        }
-        if self.a1 != other.a1 {
-            return false;
-        }
-        if self.a2 != other.a2 {
-            return false;
-        }
-        self.a3 == other.a3
+        self == other
     }
 }
 
 impl Cyclotomic64 {
+    // The coordinates, as numbers whose sums and products wrap.
+    fn wrapping(self) -> (Wrapping<u64>, Wrapping<u64>, Wrapping<u64>, Wrapping<u64>)
+        ensures first { result.0.0 ≡ self.a0 }
+        ensures second { result.1.0 ≡ self.a1 }
+        ensures third { result.2.0 ≡ self.a2 }
+        ensures fourth { result.3.0 ≡ self.a3 }
+    {
+        (
+            Wrapping(self.a0),
+            Wrapping(self.a1),
+            Wrapping(self.a2),
+            Wrapping(self.a3),
+        )
+    }
+
     // The coordinate of ω^i, 0 for an i over 3.
     pub fn word(self, i: usize) -> u64
         ensures { result ≡ word_at self.a0 self.a1 self.a2 self.a3 i }
@@ -127,15 +118,11 @@ impl Cyclotomic64 {
 }
 
 impl Column for Cyclotomic64 {
-    ghost digits = { 64 };
+    ghost DIGITS = { 64 };
 
     ghost digit_of = { λ x i. hex_at 16 (word_at x.a0 x.a1 x.a2 x.a3 (i / 16)) (i % 16) };
 
     const DIGITS: usize = 64;
-
-    fn width() -> usize {
-        Self::DIGITS
-    }
 
     fn digit(self, place: usize) -> u8 {
         ((self.word(place / 16) >> (60 - 4 * (place % 16))) % 16) as u8

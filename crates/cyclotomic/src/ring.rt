@@ -38,15 +38,12 @@ pub trait Ring: Copy {
 
 // A ring that is printed in hexadecimal digits, of a fixed number.
 pub trait Column: Ring {
-    ghost digits: { ℕ };
+    ghost DIGITS: { ℕ };
 
     ghost digit_of: { Self → ℕ → ℕ };
 
+    // The number of digits.
     const DIGITS: usize;
-
-    // The number of digits, as the constant has it.
-    fn width() -> usize
-        ensures { result ≡ digits };
 
     // The digit at a place, counted from 0 at the left; 0 past the end.
     fn digit(self, place: usize) -> u8

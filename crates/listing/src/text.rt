@@ -33,12 +33,12 @@ impl fmt::Display for ScalarText {
 pub struct ColumnText<C>(pub C);
 
 impl<C: Column> fmt::Display for ColumnText<C> {
-    ghost output = { λ x. Some (glyphs (C.Column.digit_of x.0) 0 C.Column.digits) };
+    ghost output = { λ x. Some (glyphs (C.Column.digit_of x.0) 0 C.Column.DIGITS) };
 
     fn fmt<W: fmt::Write>(&self, f: &mut fmt::Formatter<W>) -> fmt::Result {
         let digits = column_digits(self.0);
         let width = C::DIGITS;
-        if width != C::width() || width > WIDEST {
+        if width > WIDEST {
             return Err(fmt::Error);
         }
         write_ascii(f, &digits[0..width])

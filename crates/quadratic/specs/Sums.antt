@@ -32,15 +32,15 @@ total o x = option_map_or (sum_over o) x.space o.nil
 
 -- zero, or 2^(p/2) ω^m with d ≤ p ≤ 2 d
 abbrev pub Between : ℕ → Scalar → Type 0
-Between d x = x.epsilon ≡ 1 → (p : ℕ) × (x.power ≡ pos p) × (d ≤ p) × (p ≤ 2 * d)
+Between d x = (triple_of x).0 ≡ 1 → (p : ℕ) × ((triple_of x).1 ≡ pos p) × (d ≤ p) × (p ≤ 2 * d)
 
 abbrev pub Bounded : Intersection → Scalar → Type 0
 Bounded i x = MatchOption i.space (triple_of x ≡ nought) (λ s. Between (count_ones s.space.pivots) x)
 
 -- x is 0 exactly where the sum over all strings is
 pub record Vanishing (i : Intersection) (x : Scalar) : Type 0 where
-  pub vanishes : x.epsilon ≡ 0 → total omegas i ≡ omegas.nil
-  pub only : total omegas i ≡ omegas.nil → x.epsilon ≡ 0
+  pub vanishes : (triple_of x).0 ≡ 0 → total omegas i ≡ omegas.nil
+  pub only : total omegas i ≡ omegas.nil → (triple_of x).0 ≡ 0
 
 -- x is the exponential sum
 pub record IsSum (i : Intersection) (x : Scalar) : Type 0 where

@@ -1,4 +1,4 @@
-ghost use Rattle.std.specs.Prelude.{◌≡◌, ℕ, ◌+◌, ◌<◌, ◌≤◌};
+ghost use Rattle.std.specs.Prelude.{◌≡◌, OnOk, OnErr, ℕ, ◌+◌, ◌<◌, ◌≤◌};
 ghost use Rattle.cyclotomic.specs.Refusals.{answer_of};
 ghost use Rattle.quadratic.specs.Meets.{strings_in};
 ghost use Rattle.cyclotomic.specs.Sum.{sum_to};
@@ -34,10 +34,9 @@ impl<R: Ring> RunningSum<R> {
     // Adds the string that the count numbers: row a is in string c when bit a - 1 of c is 1.
     pub fn add(&mut self, x: &Intersection) -> Result<(), Refusal>
         ensures number { answer_of result ≡ add_number self.old.count x.now }
-        ensures count { answer_of result ≡ 0 → self.new.count ≡ self.old.count + 1 }
-        ensures value { answer_of result ≡ 0
-            → R.value self.new.value ≡ R.ops.plus (R.value self.old.value) (term_in R.ops x.now self.old.count) }
-        ensures refused { 0 < answer_of result → self.new ≡ self.old }
+        ensures count { OnOk result (self.new.count ≡ self.old.count + 1) }
+        ensures value { OnOk result (R.value self.new.value ≡ R.ops.plus (R.value self.old.value) (term_in R.ops x.now self.old.count)) }
+        ensures refused { OnErr result (self.new ≡ self.old) }
     {
         let s = x.space.as_ref().ok_or(Refusal::Finished)?;
         if self.count >= s.strings() {

@@ -7,11 +7,12 @@ use Rattle.std.proofs.lemmas.Bool.{ne_eqb, cond-false}
 use Rattle.cyclotomic.specs.Adjoin.{Omega, omegas}
 use Rattle.cyclotomic.specs.Exact.{scaled}
 use Rattle.cyclotomic.specs.Ring.{wpow, rpow, exact}
-use Rattle.cyclotomic.specs.Scalars.{Triple, triple_of, nought, embedded, chosen}
+use Rattle.cyclotomic.specs.Scalars.{Triple, Kind, triple_of, nought, embedded, chosen}
 use Rattle.cyclotomic.specs.Sum.{sum_to}
 use Rattle.cyclotomic.specs.CommFacts
 use Rattle.cyclotomic.specs.declared.scalar.Scalar.{Scalar}
 use Rattle.cyclotomic.proofs.Exact.{bar, bar-nil, Floor, scaled-nought, scaled-zero, scaled-one, scaled-product, scaled-nil}
+use Rattle.cyclotomic.proofs.Exact.{scalar-kind, kind-turn}
 use Rattle.cyclotomic.proofs.Ints.{omega-laws}
 use Rattle.cyclotomic.proofs.RingFacts
 use Rattle.cyclotomic.proofs.Sums
@@ -126,11 +127,11 @@ lowest d p l = omega (arith, ints)
 
 module _ (t s : StabilizerState) where
   -- an exponential sum that is not 0 has a power between those of the states
-  sum-range : (both : Intersection) (sum : Scalar) → Intersects both t s → Roomy both t s → Bounded both sum → sum.epsilon ≡ 1
-      → (p : ℕ) × (sum.power ≡ pos p) × (p ≤ depth t + depth s) × (depth t + depth s ≤ p + 8240)
+  sum-range : (both : Intersection) (sum : Scalar) → Intersects both t s → Roomy both t s → Bounded both sum → (triple_of sum).0 ≡ 1
+      → (p : ℕ) × ((triple_of sum).1 ≡ pos p) × (p ≤ depth t + depth s) × (depth t + depth s ≤ p + 8240)
   sum-range both sum =
-      by_space (λ both. Intersects both t s → Roomy both t s → Bounded both sum → sum.epsilon ≡ 1
-      → (p : ℕ) × (sum.power ≡ pos p) × (p ≤ depth t + depth s) × (depth t + depth s ≤ p + 8240))
+      by_space (λ both. Intersects both t s → Roomy both t s → Bounded both sum → (triple_of sum).0 ≡ 1
+      → (p : ℕ) × ((triple_of sum).1 ≡ pos p) × (p ≤ depth t + depth s) × (depth t + depth s ≤ p + 8240))
       (λ shared roomy b one. let z = ap (λ x. x.0) b in absurd (omega (arith, z, one)))
       (λ m shared roomy b one.
       let (p, e, least, most) = b one in
@@ -148,40 +149,39 @@ module _ (t s : StabilizerState) where
     product_is : (x : Omega) → embedded omegas (triple_of sum) ≡ x → inner t.qubits (entry t) (entry s) ≡ rpow omegas (common t s) ⊗ x
     product_is x e = inner-is t s both q shared ∙ ap (◌⊗◌ (rpow omegas (common t s))) (sym value ∙ e)
 
-    zero_is : sum.epsilon ≡ 0 → IsOverlap t s nought
+    zero_is : (triple_of sum).0 ≡ 0 → IsOverlap t s nought
     zero_is z = record {
       kind = inl refl;
       range = λ o. absurd (omega (arith, o));
-      exact = scaled-nought 8288 ∙ sym (product_is nil (ap (λ d. chosen omegas d sum.power sum.turn) z)
+      exact = scaled-nought 8288 ∙ sym (product_is nil (ap (λ d. chosen omegas d (triple_of sum).1 (triple_of sum).2) z)
           ∙ CommFacts.times_nil omega-laws.comm (rpow omegas (common t s)));
     }
 
-    unit-is : (p : ℕ) → sum.epsilon ≡ 1 → sum.power ≡ pos p → p ≤ depth t + depth s → depth t + depth s ≤ p + 8240
-        → IsOverlap t s (1, pos p +ℤ neg_ℤ (pos (depth t + depth s)), sum.turn)
+    unit-is : (p : ℕ) → (triple_of sum).0 ≡ 1 → (triple_of sum).1 ≡ pos p → p ≤ depth t + depth s → depth t + depth s ≤ p + 8240
+        → IsOverlap t s (1, pos p +ℤ neg_ℤ (pos (depth t + depth s)), (triple_of sum).2)
     unfolding common
-    unit-is p one e l h = record {
-      kind = inr (refl, sum.eighths);
-      range = λ o. (depth t + depth s - p, lowest (depth t + depth s) p l, omega (arith, h));
-      exact = scaled-one 8288 (common t s + p) (1, pos p +ℤ neg_ℤ (pos (depth t + depth s)), sum.turn) refl
-          (lifted (depth t) (depth s) p (depth_le t) (depth_le s))
-          ∙ sym (product_is (exact omegas p sum.turn) (ap₂ (λ d k. chosen omegas d k sum.turn) one e)
-          ∙ powers (common t s) p sum.turn);
-    }
+    unit-is p one e l h =
+        let turn = (triple_of sum).2 in
+        record {
+          kind = inr (refl, kind-turn (triple_of sum) (scalar-kind sum));
+          range = λ o. (depth t + depth s - p, lowest (depth t + depth s) p l, omega (arith, h));
+          exact = scaled-one 8288 (common t s + p) (1, pos p +ℤ neg_ℤ (pos (depth t + depth s)), turn) refl
+              (lifted (depth t) (depth s) p (depth_le t) (depth_le s))
+              ∙ sym (product_is (exact omegas p turn) (ap₂ (λ d k. chosen omegas d k turn) one e)
+              ∙ powers (common t s) p turn);
+        }
 
     -- the exponential sum with the powers of both states is the overlap
     pub overlap-is : Roomy both t s → Bounded both sum → IsOverlap t s (lowered (triple_of sum) (depth t + depth s))
-    overlap-is roomy b =
-        elim (ℕ_discrete sum.epsilon 0) [
-          | yes z ↦
-              let to = λ (d : ℕ). lowered_by d sum.power sum.turn (depth t + depth s) in
-              subst (λ d. IsOverlap t s (to d)) (sym z) (zero_is z)
-          | no ne ↦
-              let one : sum.epsilon ≡ 1 = let l = sum.digit in omega (arith, l) in
-              let (p, e, l, h) = sum-range both sum shared roomy b one in
-              let to = λ (d : ℕ) (k : ℤ). lowered_by d k sum.turn (depth t + depth s) in
-              subst (λ d. IsOverlap t s (to d sum.power)) (sym one)
-              (subst (λ k. IsOverlap t s (to 1 k)) (sym e) (unit-is p one e l h))
-        ]
+    overlap-is roomy b = go (scalar-kind sum)
+      where
+        go : Kind (triple_of sum) → IsOverlap t s (lowered (triple_of sum) (depth t + depth s))
+        go (inl z) = subst (λ x. IsOverlap t s (lowered x (depth t + depth s))) (sym z) (zero_is (ap (λ x. x.0) z))
+        go (inr one) =
+            let (p, e, l, h) = sum-range both sum shared roomy b one.0 in
+            let to = λ (d : ℕ) (k : ℤ). lowered_by d k (triple_of sum).2 (depth t + depth s) in
+            subst (λ d. IsOverlap t s (to d (triple_of sum).1)) (sym one.0)
+            (subst (λ k. IsOverlap t s (to 1 k)) (sym e) (unit-is p one.0 e l h))
 
   module _ (x : Triple) (is : IsOverlap t s x) where
     floor : Floor 8288 x

@@ -21,7 +21,7 @@ use Rattle.quadratic.proofs.Laws.{shift_in}
 use Rattle.quadratic.proofs.Linear.{back}
 use Rattle.quadratic.proofs.Phases.{phase-out, in-or-out}
 use Rattle.quadratic.proofs.Turning.{turn_twice}
-use Rattle.stabilizer.specs.Projections.{term, operated, sum_at, Summed, Effected, effect_of}
+use Rattle.stabilizer.specs.Projections.{term, operated, sum_at, Summed, Effected}
 use Rattle.stabilizer.specs.declared.pauli.PauliMasks.{PauliMasks}
 
 infixl 65 ◌⊕◌
@@ -83,7 +83,7 @@ module _ (m : PauliMasks) (s : PhasedSpace) (a q l : ℕ) (law : Along s m.flips
         let z = ap term (phase-out s y out) in
         factor y ∙ ap (◌⊗◌ _) z ∙ CommFacts.times_nil laws _ ∙ sym (ap (◌⊗◌ x) z ∙ CommFacts.times_nil laws x)
 
-    pub restricted : (o : Outcome) (s' : PhasedSpace) → Kept o s s' l b → Effected (effect_of o) m s s'
+    pub restricted : (o : Outcome) (s' : PhasedSpace) → Kept o s s' l b → Effected o m s s'
     restricted Unchanged s' h = (
       h.0,
       λ y. elim (in-or-out s y) [ inl i ↦ twice y (h.1 y i) | inr out ↦ empty y out (two omegas) ],

@@ -1,9 +1,10 @@
 -- How Pauli texts are read: their lengths, and what one letter more does to the masks.
-use Rattle.std.proofs.Common.{◌≡◌, ℕ, zero, suc, ◌+◌, ◌*◌, ◌/◌, ◌%◌, ◌^◌, ◌<◌, ◌≤◌, Bool, true, false, cond, eqb, List, [], ◌∷◌, length, get_or, drop, Some, None, Ok, Err, Option, sym, refl, ap, ◌∙◌, subst, ap₂, lt_of_le_of_lt, mod-lt, mod-eq_of_lt, one-mul, pow-suc, zero-mul, arith, pow_pos}
+use Rattle.std.proofs.Common.{◌≡◌, ℕ, suc, ◌+◌, ◌*◌, ◌/◌, ◌%◌, ◌^◌, ◌<◌, ◌≤◌, Bool, true, false, cond, eqb, List, [], ◌∷◌, ◌++◌, length, get_or, drop, Some, None, Ok, Err, Option, sym, refl, ap, ◌∙◌, subst, ap₂, lt_of_le_of_lt, mod-lt, mod-eq_of_lt, one-mul, pow-suc, zero-mul, arith, pow_pos}
 use lib.Bits.{bit_and, and_block, and_mod, and_le_l, and_lt, and_comm, and_mask, and_zero_l}
 use lib.Count.{ones, ones_cat}
 use lib.Pow.{split}
 use Rattle.std.proofs.lemmas.Bool.{eqb-true, eq-eqb, cond-true}
+use Rattle.std.proofs.lemmas.List.{append_assoc}
 use Rattle.cyclotomic.specs.Refusals.{number_of}
 use Rattle.cyclotomic.specs.declared.refusal.Refusal.{Refusal}
 use Rattle.quadratic.specs.Bits.{bit, dot}
@@ -50,11 +51,10 @@ text-length n text e = go (eqb (length text) (n + 1)) refl e
     go true h e = eqb-true _ _ h
     go false h e = absurd (omega arith)
 
--- a byte that is no letter spoils every text that ends with what follows it
-pub letters-none : (text : List ℕ) (i : ℕ) → letters_of (drop i text) ≡ None → letters_of text ≡ None
-letters-none text zero e = e
-letters-none [] (suc i) e = e
-letters-none (b ∷ text) (suc i) e = ap (joined (letter_of b)) (letters-none text i e) ∙ go (letter_of b)
+-- a byte that is no letter spoils every text that ends with it and what follows
+pub letters-none : (front back : List ℕ) → letters_of back ≡ None → letters_of (front ++ back) ≡ None
+letters-none [] back e = e
+letters-none (b ∷ front) back e = ap (joined (letter_of b)) (letters-none front back e) ∙ go (letter_of b)
   where
     go : (o : Option Letter) → joined o None ≡ None
     go (Some l) = refl
@@ -163,13 +163,25 @@ masks-none text e = rw e (record {
   few = omega arith;
 })
 
-pub letter-bad : (text : List ℕ) (i b : ℕ) (e : Refusal) (m : PauliMasks) (place : ℕ) → drop i text ≡ b ∷ drop (i + 1) text
-    → Added (Err e) (letter_of b) m place → MaskedLetters (Err e) (letters_of text)
-letter-bad text i b e m place d h = go (letter_of b) refl h
+pub letter-bad : (front back : List ℕ) (b : ℕ) (e : Refusal) (m : PauliMasks) (place : ℕ) → Added (Err e) (letter_of b) m place
+    → MaskedLetters (Err e) (letters_of (front ++ (b ∷ back)))
+letter-bad front back b e m place h = go (letter_of b) refl h
   where
-    go : (o : Option Letter) → letter_of b ≡ o → Added (Err e) o m place → MaskedLetters (Err e) (letters_of text)
+    go : (o : Option Letter) → letter_of b ≡ o → Added (Err e) o m place → MaskedLetters (Err e) (letters_of (front ++ (b ∷ back)))
     go (Some l) q h = absurd h
-    go None q h = rw (letters-none text i (ap letters_of d ∙ ap (λ o. joined o (letters_of (drop (i + 1) text))) q)) h
+    go None q h = rw (letters-none front (b ∷ back) (ap (λ o. joined o (letters_of back)) q)) h
+
+-- the masks are those of the last letters, so many; the rest comes before them
+pub record ReadBehind (letters rest : List ℕ) (count : ℕ) (m : PauliMasks) : Type 0 where
+  pub behind : List ℕ
+  pub whole : letters ≡ rest ++ behind
+  pub counted : length behind ≡ count
+  pub masks : MaskedLetters (Ok m) (letters_of behind)
+
+-- the last letter of the rest goes to those behind it
+pub behind-more : (letters rest front behind : List ℕ) (b : ℕ) → letters ≡ rest ++ behind → rest ≡ front ++ (b ∷ [])
+    → letters ≡ front ++ (b ∷ behind)
+behind-more letters rest front behind b w e = w ∙ ap (λ r. r ++ behind) e ∙ append_assoc front (b ∷ []) behind
 
 -- the letters behind masks
 pub masked : (m : PauliMasks) (text : List ℕ) → MaskedLetters (Ok m) (letters_of text)
@@ -180,6 +192,12 @@ masked m text h = go (letters_of text) (letters-length text) h
         → (ls : List Letter) × MasksOf ls m × (length ls ≡ length text)
     go (Some ls) n h = (ls, h, n ls refl)
     go None n h = absurd h
+
+pub below-place : (m : PauliMasks) (text : List ℕ) → MaskedLetters (Ok m) (letters_of text)
+    → (m.flips < 2 ^ length text) × (m.signs < 2 ^ length text) × (m.quarters ≤ length text)
+below-place m text h =
+    let (ls, k, n) = masked m text h in
+    (subst (λ i. m.flips < 2 ^ i) n k.low, subst (λ i. m.signs < 2 ^ i) n k.small, subst (λ i. m.quarters ≤ i) n k.few)
 
 -- ---- a text by its first byte and the others
 

@@ -56,8 +56,8 @@ pub record Overlaps (x : Scalar) (t s : StabilizerState) : Type 0 where
   pub is : IsOverlap t s (triple_of x)
   -- the overlap of s and t is the conjugate
   pub swapped : IsOverlap s t (mirrored (triple_of x))
-  pub vanishes : x.epsilon ≡ 0 → Orthogonal t s
-  pub orthogonal : Orthogonal t s → x.epsilon ≡ 0
+  pub vanishes : (triple_of x).0 ≡ 0 → Orthogonal t s
+  pub orthogonal : Orthogonal t s → (triple_of x).0 ≡ 0
   pub both : Intersection
   pub shared : Intersects both t s
   pub sum : Scalar

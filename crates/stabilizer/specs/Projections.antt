@@ -7,10 +7,8 @@ use Rattle.quadratic.specs.Moves.{turn}
 use Rattle.quadratic.specs.Phase.{phase}
 use Rattle.quadratic.specs.Sums.{term_of}
 use Rattle.quadratic.specs.declared.affine.Outcome.{Outcome}
-use Rattle.quadratic.specs.declared.affine.Outcome.TheVariants.{Unchanged as Whole, Empty, Restricted}
+use Rattle.quadratic.specs.declared.affine.Outcome.TheVariants.{Unchanged, Empty, Restricted}
 use Rattle.quadratic.specs.declared.phased.PhasedSpace.{PhasedSpace}
-use Rattle.stabilizer.specs.declared.pauli.Effect.{Effect}
-use Rattle.stabilizer.specs.declared.pauli.Effect.TheVariants.{Unchanged, Vanished, Changed}
 use Rattle.stabilizer.specs.declared.pauli.PauliMasks.{PauliMasks}
 
 -- ω to the power of a phase, and 0 where there is none
@@ -30,12 +28,8 @@ pub record Summed (m : PauliMasks) (s s' : PhasedSpace) : Type 0 where
   pub balance : count_ones s'.space.pivots + root ≡ count_ones s.space.pivots + 1
   pub sums : (y : ℕ) → sum_at m s y ≡ omegas.times (rpow omegas root) (term (phase s' y))
 
-abbrev pub Effected : Effect → PauliMasks → PhasedSpace → PhasedSpace → Type 0
+-- left as it was, since the operator does; nothing left; or another space
+abbrev pub Effected : Outcome → PauliMasks → PhasedSpace → PhasedSpace → Type 0
 Effected Unchanged m s s' = (s' ≡ s) × ((y : ℕ) → sum_at m s y ≡ omegas.times (two omegas) (term (phase s y)))
-Effected Vanished m s s' = (s' ≡ s) × ((y : ℕ) → sum_at m s y ≡ omegas.nil)
-Effected Changed m s s' = Summed m s s'
-
-abbrev pub effect_of : Outcome → Effect
-effect_of Whole = Unchanged
-effect_of Empty = Vanished
-effect_of Restricted = Changed
+Effected Empty m s s' = (s' ≡ s) × ((y : ℕ) → sum_at m s y ≡ omegas.nil)
+Effected Restricted m s s' = Summed m s s'

@@ -1,11 +1,14 @@
 ghost use Rattle.std.specs.Prelude.{◌≡◌, ◌^◌, ◌<◌, ◌≤◌};
+ghost use Rattle.std.specs.Option.{ok_or};
+ghost use Rattle.cyclotomic.specs.declared.refusal.Refusal.TheVariants.{Kind};
 ghost use Rattle.stabilizer.specs.Gates.{gate_numbered, takes as taken_by};
 ghost use Rattle.stabilizer.specs.Moved.{Placed, Moved};
 
+use cyclotomic::refusal::Refusal;
 use quadratic::phased::PhasedSpace;
 
 // The gates, in the order of their numbers from 1 on.
-#[derive(Clone, Copy)]
+#[derive(Clone, Copy, Debug, PartialEq, Eq)]
 pub enum Gate {
     X,
     Z,
@@ -15,32 +18,33 @@ pub enum Gate {
     CZ,
 }
 
-impl Gate {
-    // The gate with a number, if there is one.
-    pub fn numbered(kind: u64) -> Option<Gate>
-        ensures { result ≡ gate_numbered kind }
-    {
+impl TryFrom<u64> for Gate {
+    type Error = Refusal;
+
+    ghost try_from_gives = { λ kind r. r ≡ ok_or (gate_numbered kind) Kind };
+
+    fn try_from(kind: u64) -> Result<Gate, Refusal> {
         match kind {
-            1 => Some(Gate::X),
-            2 => Some(Gate::Z),
-            3 => Some(Gate::S),
-            4 => Some(Gate::SDagger),
-            5 => Some(Gate::CNot),
-            6 => Some(Gate::CZ),
-            _ => None,
+            1 => Ok(Gate::X),
+            2 => Ok(Gate::Z),
+            3 => Ok(Gate::S),
+            4 => Ok(Gate::SDagger),
+            5 => Ok(Gate::CNot),
+            6 => Ok(Gate::CZ),
+            _ => Err(Refusal::Kind),
         }
     }
+}
 
+impl Gate {
     // Whether the gate acts on these qubits of so many; a gate of one qubit has 0 for the second.
     pub fn takes(self, qubits: u64, j: u64, l: u64) -> bool
         ensures { result ≡ taken_by self qubits j l }
     {
-        if j < 1 || j > qubits {
-            return false;
-        }
+        let is_qubit = |a| (1..=qubits).contains(&a);
         match self {
-            Gate::X | Gate::Z | Gate::S | Gate::SDagger => l == 0,
-            Gate::CNot | Gate::CZ => l >= 1 && l <= qubits && j != l,
+            Gate::X | Gate::Z | Gate::S | Gate::SDagger => is_qubit(j) && l == 0,
+            Gate::CNot | Gate::CZ => is_qubit(j) && is_qubit(l) && j != l,
         }
     }
 

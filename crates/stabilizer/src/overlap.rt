@@ -1,4 +1,4 @@
-ghost use Rattle.std.specs.Prelude.{◌≡◌, ◌<◌};
+ghost use Rattle.std.specs.Prelude.{◌≡◌, OnOk, OnErr};
 ghost use Rattle.cyclotomic.specs.Refusals.{answer_of};
 ghost use Rattle.stabilizer.specs.Overlaps.{sizes_number, Intersects, Roomy, Overlapping};
 
@@ -15,9 +15,9 @@ pub fn intersect(
     s: &StabilizerState,
 ) -> Result<(), Refusal>
     ensures number { answer_of result ≡ sizes_number t.now s.now }
-    ensures granted { answer_of result ≡ 0 → Intersects out.new t.now s.now }
-    ensures roomy { answer_of result ≡ 0 → Roomy out.new t.now s.now }
-    ensures refused { 0 < answer_of result → out.new ≡ out.old }
+    ensures granted { OnOk result (Intersects out.new t.now s.now) }
+    ensures roomy { OnOk result (Roomy out.new t.now s.now) }
+    ensures refused { OnErr result (out.new ≡ out.old) }
 {
     if t.qubits() != s.qubits() {
         return Err(Refusal::Sizes);
@@ -36,8 +36,8 @@ pub fn overlap_into(
 ) -> Result<Scalar, Refusal>
     ensures number { answer_of result ≡ sizes_number t.now s.now }
     ensures value { Overlapping result t.now s.now }
-    ensures granted { answer_of result ≡ 0 → Intersects out.new t.now s.now }
-    ensures refused { 0 < answer_of result → out.new ≡ out.old }
+    ensures granted { OnOk result (Intersects out.new t.now s.now) }
+    ensures refused { OnErr result (out.new ≡ out.old) }
 {
     intersect(out, t, s)?;
     let sum = exponential_sum(out);

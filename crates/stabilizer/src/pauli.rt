@@ -2,31 +2,23 @@ ghost use Rattle.std.specs.Prelude.{◌≡◌, ℕ, ◌+◌, ◌*◌, ◌^◌, �
 ghost use Rattle.quadratic.specs.Bits.{dot as parity};
 ghost use Rattle.quadratic.specs.Moves.{turn};
 ghost use Rattle.quadratic.specs.Phase.{phase};
-ghost use Rattle.stabilizer.specs.declared.pauli.Effect.TheVariants.{Changed};
+ghost use Rattle.quadratic.specs.declared.affine.Outcome.TheVariants.{Restricted};
 ghost use Rattle.cyclotomic.specs.Refusals.{answer_of};
 ghost use Rattle.stabilizer.specs.Masks.{Added, MaskedLetters, Masked, quarters_of};
-ghost use Rattle.stabilizer.specs.Projections.{Effected, effect_of};
+ghost use Rattle.stabilizer.specs.Projections.{Effected};
 ghost use Rattle.stabilizer.specs.Paulis.{sign_of, letter_of, letters_of, pauli_of, text_number};
 
 use cyclotomic::refusal::Refusal;
 use quadratic::affine::Outcome;
 use quadratic::phased::PhasedSpace;
 
-// What a projection makes of a space with phases: it is left as it was, nothing is left of it, or it is another one.
-#[derive(Clone, Copy)]
-pub(crate) enum Effect {
-    Unchanged,
-    Vanished,
-    Changed,
-}
-
 // A signed product of the matrices I, X, Y and Z, one for each qubit: it takes a string y to y with the bits of `flips` turned
 // over, times i^quarters, and times -1 where y has an odd parity with `signs`.
-#[derive(Clone, Copy)]
+#[derive(Clone, Copy, Default)]
 pub(crate) struct PauliMasks {
-    pub(crate) flips: u64,
-    pub(crate) signs: u64,
-    pub(crate) quarters: u8,
+    flips: u64,
+    signs: u64,
+    quarters: u8,
 }
 
 impl PauliMasks {
@@ -39,14 +31,11 @@ impl PauliMasks {
         if text.len() as u64 != qubits + 1 {
             return Err(Refusal::TextLength);
         }
-        let Some(turned) = sign_quarters(text[0]) else {
-            return Err(Refusal::Letter);
-        };
+        let turned = sign_quarters(text[0]).ok_or(Refusal::Letter)?;
         let masks = PauliMasks::read_letters(&text[1..])?;
         Ok(PauliMasks {
-            flips: masks.flips,
-            signs: masks.signs,
             quarters: masks.quarters + turned,
+            ..masks
         })
     }
 
@@ -55,15 +44,9 @@ impl PauliMasks {
         requires { length letters.now ≤ 48 }
         ensures { MaskedLetters result (letters_of letters.now) }
     {
-        let mut masks = PauliMasks {
-            flips: 0,
-            signs: 0,
-            quarters: 0,
-        };
-        let mut i = letters.len();
-        while i > 0 {
-            i -= 1;
-            masks = masks.with(letters[i], letters.len() - 1 - i)?;
+        let mut masks = PauliMasks::default();
+        for (place, &letter) in letters.iter().rev().enumerate() {
+            masks = masks.with(letter, place)?;
         }
         Ok(masks)
     }
@@ -90,48 +73,36 @@ impl PauliMasks {
             quarters: self.quarters + (flip * sign) as u8,
         })
     }
-}
 
-impl PauliMasks {
-    // Adds to the phased space what the operator makes of it.
-    pub(crate) fn project(&self, body: &mut PhasedSpace) -> Effect
+    // Adds to the phased space what the operator makes of it: it is left as it was, nothing is left of it, or it is restricted to what
+    // the operator leaves as it is.
+    pub(crate) fn project(&self, body: &mut PhasedSpace) -> Outcome
         requires { self.now.flips < 2 ^ 48 }
         ensures { Effected result self.now body.old body.new }
     {
         let Some((turns, mask)) = body.factor_along(self.flips, self.signs) else {
             let _ = body.extend(self.flips, self.quarters, self.signs);
-            return Effect::Changed;
+            return Outcome::Restricted;
         };
         // 1 + i is √2 ω, and 1 - i is √2 ω^7
         match (self.quarters % 4 + turns) % 4 {
-            0 => halved(body.restrict(mask, false)),
+            0 => body.restrict(mask, false),
             1 => turned(body, 1, 3, mask),
-            2 => halved(body.restrict(mask, true)),
+            2 => body.restrict(mask, true),
             _ => turned(body, 7, 1, mask),
         }
     }
 }
 
-// What a restriction is to a projection.
-fn halved(outcome: Outcome) -> Effect
-    ensures { result ≡ effect_of outcome }
-{
-    match outcome {
-        Outcome::Unchanged => Effect::Unchanged,
-        Outcome::Empty => Effect::Vanished,
-        Outcome::Restricted => Effect::Changed,
-    }
-}
-
 // Turns every phase by so many eighths, and by quarters where the parity with the mask is odd.
-fn turned(body: &mut PhasedSpace, eighths: u8, quarters: u8, mask: u64) -> Effect
-    ensures effect { result ≡ Changed }
+fn turned(body: &mut PhasedSpace, eighths: u8, quarters: u8, mask: u64) -> Outcome
+    ensures outcome { result ≡ Restricted }
     ensures phases { (y : ℕ) → phase body.new y ≡ turn (2 * quarters * parity mask y) (turn eighths (phase body.old y)) }
     ensures space { body.new.space ≡ body.old.space }
 {
     body.add_phase(eighths);
     body.add_parity(quarters, mask);
-    Effect::Changed
+    Outcome::Restricted
 }
 
 // The quarter turns that a sign stands for.

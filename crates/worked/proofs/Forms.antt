@@ -101,4 +101,4 @@ sum-known x r y h k f e = value-known r y (floor x h.bounds) k f (h.exact ∙ sy
     floor : (x : Intersection) → Bounded x r → Floor 0 (triple_of r)
     floor =
         by_space (λ x. Bounded x r → Floor 0 (triple_of r)) (λ b o. let z = ap (λ t. t.0) b in absurd (omega arith))
-        (λ s b o. let h = b o in (h.0, +ℤ_idl r.power ∙ h.1))
+        (λ s b o. let h = b o in (h.0, +ℤ_idl (triple_of r).1 ∙ h.1))

@@ -86,7 +86,8 @@ module _ (t s : StabilizerState) (a b : ℕ) (p : Phases (phase t.body) 0 a) (q 
   overlap-known m l e dt ds x h =
       let sum = h.sum in
       let value = h.exact ∙ total-phases omega-laws.comm h.both 0 _ (shared-phases h.both h.shared) ∙ e in
-      let high = floor sum.epsilon sum.power sum.turn value in
+      let y = triple_of sum in
+      let high = floor y.0 y.1 y.2 value in
       let known = value-known sum (1, pos 1, m) high (inr (refl, l)) (λ o. (1, refl)) value in
       h.value ∙ ap₂ lowered known (ap₂ ◌+◌ dt ds)
     where

@@ -1,18 +1,14 @@
 ghost use Rattle.std.specs.Prelude.{◌≡◌, ℕ, ◌<◌, ℤ, pos, MatchOption};
 ghost use Rattle.cyclotomic.specs.Scalars.{triple_of, Kind, nought, unit};
 
-use super::Scalar;
+use super::{Scalar, Term};
 
 impl Scalar {
     // The number 0.
     pub fn zero() -> Scalar
         ensures { triple_of result ≡ nought }
     {
-        Scalar {
-            epsilon: 0,
-            power: 0,
-            turn: 0,
-        }
+        Scalar { term: None }
     }
 
     // 2^(power/2) ω^turn, the turn taken modulo 8.
@@ -20,9 +16,10 @@ impl Scalar {
         ensures { triple_of result ≡ unit power turn }
     {
         Scalar {
-            epsilon: 1,
-            power,
-            turn: turn % 8,
+            term: Some(Term {
+                power,
+                turn: turn % 8,
+            }),
         }
     }
 
@@ -30,38 +27,28 @@ impl Scalar {
     pub fn new(epsilon: u64, power: i64, turn: u64) -> Option<Scalar>
         ensures { MatchOption result (Kind (epsilon, power, turn) → ⊥) (λ x. triple_of x ≡ (epsilon, power, turn)) }
     {
-        if epsilon == 0 && power == 0 && turn == 0 {
-            return Some(Scalar {
-                epsilon,
-                power,
-                turn,
-            });
+        match (epsilon, power, turn) {
+            (0, 0, 0) => Some(Scalar::zero()),
+            (1, _, 0..8) => Some(Scalar::term(power, turn)),
+            _ => None,
         }
-        if epsilon == 1 && turn < 8 {
-            return Some(Scalar {
-                epsilon,
-                power,
-                turn,
-            });
-        }
-        None
     }
 
     pub fn epsilon(&self) -> u64
         ensures { result ≡ (triple_of self.now).0 }
     {
-        self.epsilon
+        self.term.map_or(0, |_| 1)
     }
 
     pub fn power(&self) -> i64
         ensures { result ≡ (triple_of self.now).1 }
     {
-        self.power
+        self.term.map_or(0, |term| term.power)
     }
 
     pub fn turn(&self) -> u64
         ensures { result ≡ (triple_of self.now).2 }
     {
-        self.turn
+        self.term.map_or(0, |term| term.turn)
     }
 }

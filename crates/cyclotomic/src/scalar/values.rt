@@ -4,7 +4,7 @@ ghost use Rattle.cyclotomic.specs.Adjoin.{ints, conj};
 ghost use Rattle.cyclotomic.specs.Exact.{scaled, Floor, mirrored};
 ghost use Rattle.cyclotomic.specs.Scalars.{triple_of};
 
-use super::Scalar;
+use super::{Scalar, Term};
 
 impl Scalar {
     // The complex conjugate.
@@ -13,9 +13,10 @@ impl Scalar {
         ensures exact { (n : ℕ) → scaled n (triple_of result) ≡ conj ints (scaled n (triple_of self.now)) }
     {
         Scalar {
-            epsilon: self.epsilon,
-            power: self.power,
-            turn: (8 - self.turn) % 8,
+            term: self.term.map(|term| Term {
+                power: term.power,
+                turn: (8 - term.turn) % 8,
+            }),
         }
     }
 
@@ -26,12 +27,6 @@ impl Scalar {
         ensures apart { (n : ℕ) → Floor n (triple_of self.now) → Floor n (triple_of other.now)
             → scaled n (triple_of self.now) ≡ scaled n (triple_of other.now) → T result }
     {
-        if self.epsilon != other.epsilon {
-            return false;
-        }
-        if self.power != other.power {
-            return false;
-        }
-        self.turn == other.turn
+        self == other
     }
 }

@@ -5,8 +5,9 @@ ghost use Rattle.stabilizer.specs.Paulis.{pauli_of, text_number};
 
 use super::StabilizerState;
 use crate::gate::Gate;
-use crate::pauli::{Effect, PauliMasks};
+use crate::pauli::PauliMasks;
 use cyclotomic::refusal::Refusal;
+use quadratic::affine::Outcome;
 
 // The weight is never below this number's negative.
 const MOST: u64 = 4096;
@@ -16,23 +17,15 @@ impl StabilizerState {
     pub fn gate(&mut self, kind: u64, j: u64, l: u64) -> Result<(), Refusal>
         ensures { Gated kind j l self.old (answer_of result) self.new }
     {
-        let Some(gate) = Gate::numbered(kind) else {
-            return Err(Refusal::Kind);
-        };
+        let gate = Gate::try_from(kind)?;
         if !gate.takes(self.qubits, j, l) {
             return Err(Refusal::Operands);
         }
-        let mut body = self.body;
         gate.apply(
-            &mut body,
+            &mut self.body,
             (self.qubits - j) as usize,
             (self.qubits - l) as usize,
         );
-        *self = StabilizerState {
-            qubits: self.qubits,
-            loss: self.loss,
-            body,
-        };
         Ok(())
     }
 
@@ -44,17 +37,14 @@ impl StabilizerState {
         let operator = PauliMasks::read(self.qubits, text)?;
         let mut body = self.body;
         match operator.project(&mut body) {
-            Effect::Unchanged => Ok(()),
-            Effect::Vanished => Err(Refusal::Impossible),
-            Effect::Changed => {
+            Outcome::Unchanged => Ok(()),
+            Outcome::Empty => Err(Refusal::Impossible),
+            Outcome::Restricted => {
                 if self.loss == MOST {
                     return Err(Refusal::Exhausted);
                 }
-                *self = StabilizerState {
-                    qubits: self.qubits,
-                    loss: self.loss + 1,
-                    body,
-                };
+                self.body = body;
+                self.loss += 1;
                 Ok(())
             }
         }

@@ -1,4 +1,4 @@
-ghost use Rattle.std.specs.Prelude.{◌≡◌, ℕ, ◌+◌, ◌*◌, ◌%◌, ◌^◌, ◌<◌, ◌≤◌, T, ℤ, pos, neg_ℤ, count_ones};
+ghost use Rattle.std.specs.Prelude.{◌≡◌, OnOk, OnErr, ℕ, ◌+◌, ◌*◌, ◌%◌, ◌^◌, ◌<◌, ◌≤◌, T, ℤ, pos, neg_ℤ, count_ones};
 ghost use Rattle.cyclotomic.specs.Refusals.{answer_of};
 ghost use Rattle.quadratic.specs.Fields.{row_of, linear_of, coupling_of};
 ghost use Rattle.stabilizer.specs.Overlaps.{depth as depth_of};
@@ -24,8 +24,8 @@ impl StabilizerState {
     // The state of n qubits with amplitude 1 at the string of zeros.
     pub fn open(&mut self, n: u64) -> Result<(), Refusal>
         ensures number { answer_of result ≡ open_number n }
-        ensures granted { answer_of result ≡ 0 → Opened self.new n }
-        ensures refused { 0 < answer_of result → self.new ≡ self.old }
+        ensures granted { OnOk result (Opened self.new n) }
+        ensures refused { OnErr result (self.new ≡ self.old) }
     {
         if n < 1 || n > 48 {
             return Err(Refusal::Qubits);
@@ -134,10 +134,10 @@ impl StabilizerState {
         if string >> self.qubits != 0 {
             return Err(Refusal::StringNumber);
         }
-        match self.body.phase_at(string) {
-            Some(m) => Ok(Scalar::term(-(self.depth() as i64), m as u64)),
-            None => Ok(Scalar::zero()),
-        }
+        let Some(phase) = self.body.phase_at(string) else {
+            return Ok(Scalar::zero());
+        };
+        Ok(Scalar::term(-(self.depth() as i64), phase as u64))
     }
 
     // Whether two states have the same number of qubits and the same amplitudes.
@@ -145,12 +145,7 @@ impl StabilizerState {
         ensures sound { T result → SameState self.now other.now }
         ensures complete { SameState self.now other.now → T result }
     {
-        if self.qubits != other.qubits {
-            return false;
-        }
-        if self.loss != other.loss {
-            return false;
-        }
-        self.body.same(&other.body)
+        // not self == other: there the proof lacks the lengths of the arrays that the body holds
+        (self.qubits, self.loss) == (other.qubits, other.loss) && self.body.same(&other.body)
     }
 }

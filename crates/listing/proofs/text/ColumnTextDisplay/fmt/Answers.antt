@@ -10,6 +10,6 @@ returns-clause-writes g c = λ plain ok.
     let width = c.DIGITS-width.result in
     let long : length digits ≡ 64 = search rules in
     let within : width - 0 ≤ 64 = omega arith in
-    let same : width - 0 ≡ g.C.Column.digits = omega arith in
+    let same : width - 0 ≡ g.C.Column.DIGITS = omega arith in
     same-put (glyphs-front f digits (width - 0) 64 long within c.column_digits-digits.ensures ∙ ap (λ (n : ℕ). glyphs f 0 n) same)
     (c.write_ascii.ensures plain ok)

@@ -1,45 +1,60 @@
-use Rattle.std.proofs.Common.{◌≡◌, ◌+◌, ◌-◌, ◌^◌, ◌<◌, length, get_or, drop, Ok, Err, sym, ap, ◌∙◌, subst, arith, length-drop}
-use Rattle.std.proofs.lemmas.List.{drop_all, drop_more}
+use Rattle.std.proofs.Common.{rules, ◌≡◌, suc, length, [], ◌∷◌, ◌++◌, Err, refl, sym, ap, ◌∙◌}
+use Rattle.std.proofs.lemmas.List.{nil_from_length}
 use Rattle.std.proofs.lemmas.Result.{err_from_is_err_and}
-use Rattle.stabilizer.specs.Masks.{MaskedLetters}
-use Rattle.stabilizer.specs.Paulis.{letters_of}
-use Rattle.stabilizer.proofs.Texts.{letter-more, letter-bad, masks-none, masked}
+use Rattle.stabilizer.proofs.Texts.{behind-more, below-place, masks-none, letter-more, letter-bad}
 use Rattle.stabilizer.proofs.pauli.PauliMasks.read_letters.Goals as goal
 
-pub loop-i-init : goal.loop-i-init
-loop-i-init c = let xs = c.args.letters.now in (omega arith, masks-none (drop (length xs) xs) (drop_all (length xs) xs (omega arith)))
+pub loop-place-init : goal.loop-place-init
+loop-place-init c =
+    let none : c.default-masks.result ≡ record { flips = 0; signs = 0; quarters = 0 } = search rules in
+    record { behind = []; whole = search rules; counted = search rules; masks = rw none (masks-none [] refl) }
 
-pub with-requires : goal.with-requires
-with-requires c =
-    let xs = c.args.letters.now in
-    let i = c.loop-i.i in
-    let (ls, h, e) = masked c.loop-i.masks (drop i xs) c.loop-i.invariant.1 in
-    let n : length ls ≡ length xs - 1 - (i - 1) = e ∙ simp length-drop (omega arith) in
-    record {
-      place = omega arith;
-      flips = subst (λ k. c.loop-i.masks.flips < 2 ^ k) n h.low;
-      signs = subst (λ k. c.loop-i.masks.signs < 2 ^ k) n h.small;
-      quarters = let f = h.few in omega arith;
-    }
+-- the letter goes to the place above those that are read
+pub with-requires-clause-flips : goal.with-requires-clause-flips
+with-requires-clause-flips c =
+    let i = c.loop-place.invariant in
+    let p : c.in-Some.place ≡ length i.behind = search rules in
+    rw p (below-place c.loop-place.masks i.behind i.masks).0
+
+pub with-requires-clause-signs : goal.with-requires-clause-signs
+with-requires-clause-signs c =
+    let i = c.loop-place.invariant in
+    let p : c.in-Some.place ≡ length i.behind = search rules in
+    rw p (below-place c.loop-place.masks i.behind i.masks).1
+
+pub with-requires-clause-quarters : goal.with-requires-clause-quarters
+with-requires-clause-quarters c =
+    let i = c.loop-place.invariant in
+    let p : c.in-Some.place ≡ length i.behind = search rules in
+    rw p (below-place c.loop-place.masks i.behind i.masks).2
 
 pub returns-in_err-masks : goal.returns-in_err-masks
 returns-in_err-masks c =
-    let xs = c.args.letters.now in
-    let i = c.loop-i.i - 1 in
+    let i = c.loop-place.invariant in
+    let front = c.next.new.self.iter.iter.rest.now in
+    let b = c.in-Some.field-0-1.now in
+    let e : c.loop-place.place-iterator.iter.iter.rest.now ≡ front ++ (b ∷ []) = search rules in
     let p = err_from_is_err_and c.from_residual.result c.from_residual.ensures.1 in
-    let h : i < length xs = omega arith in
-    subst (λ r. MaskedLetters r (letters_of xs)) (sym (p.1 ∙ ap (λ e. Err e) p.2))
-    (letter-bad xs i (get_or xs i 0) _ _ _ (drop_more xs i 0 h) c.in_err-masks.ensures)
+    rw (p.1 ∙ ap (λ e. Err e) p.2) (rw (behind-more c.args.letters.now _ front i.behind b i.whole e)
+    (letter-bad front i.behind b _ _ _ c.in_err-masks.ensures))
 
-pub loop-i-preserved : goal.loop-i-preserved
-loop-i-preserved c =
-    let xs = c.args.letters.now in
-    let i = c.loop-i.i - 1 in
-    let h : i < length xs = omega arith in
-    let e : i + 1 ≡ c.loop-i.i = omega arith in
-    let rest : length xs - 1 - i ≡ length (drop (i + 1) xs) = simp length-drop (omega arith) in (
-      omega arith,
-      rw (drop_more xs i 0 h) (letter-more (get_or xs i 0) (drop (i + 1) xs) _ _ _ rest
-          (subst (λ k. MaskedLetters (Ok c.loop-i.masks) (letters_of (drop k xs))) (sym e) c.loop-i.invariant.1)
-          c.in_ok-masks.ensures),
-    )
+pub loop-place-preserved : goal.loop-place-preserved
+loop-place-preserved c =
+    let i = c.loop-place.invariant in
+    let front = c.next.new.self.iter.iter.rest.now in
+    let b = c.in-Some.field-0-1.now in
+    let e : c.loop-place.place-iterator.iter.iter.rest.now ≡ front ++ (b ∷ []) = search rules in
+    let q : c.next.new.self.count ≡ suc c.loop-place.place-iterator.count = search rules in
+    let p : c.in-Some.place ≡ length i.behind = search rules in
+    record {
+      behind = b ∷ i.behind;
+      whole = behind-more c.args.letters.now _ front i.behind b i.whole e;
+      counted = ap suc i.counted ∙ sym q;
+      masks = letter-more b i.behind c.loop-place.masks c.in_ok-masks.masks c.in-Some.place p i.masks c.in_ok-masks.ensures;
+    }
+
+pub returns : goal.returns
+returns c =
+    let i = c.loop-place.invariant in
+    let z : length c.loop-place.place-iterator.iter.iter.rest.now ≡ 0 = search rules in
+    rw (i.whole ∙ ap (λ r. r ++ i.behind) (nil_from_length _ z)) i.masks

@@ -29,14 +29,14 @@ returns-in-Unchanged c =
     let b = stays m P s h c.in-Unchanged.ensures.1 in
     by-text s.qubits text P s 0 s r.number p (kept (not-nothing P s b) b)
 
-pub returns-in-Vanished : goal.returns-in-Vanished
-returns-in-Vanished c =
+pub returns-in-Empty : goal.returns-in-Empty
+returns-in-Empty c =
     let s = c.args.self.now in
     let text = c.args.text.now in
     let m = c.in_ok-operator.operator in
     let r = c.in_ok-operator.ensures in
     let (P, p, h, l) = known s.qubits text m r.number r.masks in
-    by-text s.qubits text P s 21 s r.number p (impossible (vanishes m P s h c.in-Vanished.ensures.1))
+    by-text s.qubits text P s 21 s r.number p (impossible (vanishes m P s h c.in-Empty.ensures.1))
 
 pub returns-then-self-eq-MOST : goal.returns-then-self-eq-MOST
 returns-then-self-eq-MOST c =
@@ -46,7 +46,7 @@ returns-then-self-eq-MOST c =
     let r = c.in_ok-operator.ensures in
     let (P, p, h, l) = known s.qubits text m r.number r.masks in
     let t = c.project.new.body in
-    let sum = c.in-Changed.ensures in
+    let sum = c.in-Restricted.ensures in
     by-text s.qubits text P s 22 s r.number p
     (exhausted (not-vanished m P s h l t sum) (not_same m P s h l t sum) c.if-self-eq-MOST.true)
 
@@ -56,7 +56,7 @@ invariant_of-self c =
     let m = c.in_ok-operator.operator in
     let r = c.in_ok-operator.ensures in
     let (P, p, h, l) = known s.qubits c.args.text.now m r.number r.masks in
-    let (a, b) = body_below m P s h l c.project.new.body c.in-Changed.ensures in
+    let (a, b) = body_below m P s h l c.project.new.body c.in-Restricted.ensures in
     let light = s.light in
     let ne = c.if-self-eq-MOST.false in
     record {
@@ -74,4 +74,4 @@ returns-else-self-eq-MOST c =
     let m = c.in_ok-operator.operator in
     let r = c.in_ok-operator.ensures in
     let (P, p, h, l) = known s.qubits text m r.number r.masks in
-    by-text s.qubits text P s 0 _ r.number p (lowered m P s h l c.project.new.body c.in-Changed.ensures _ refl refl refl)
+    by-text s.qubits text P s 0 _ r.number p (lowered m P s h l c.project.new.body c.in-Restricted.ensures _ refl refl refl)

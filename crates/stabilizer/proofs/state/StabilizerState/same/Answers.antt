@@ -1,18 +1,22 @@
+use Rattle.std.proofs.Common.{◌≡◌, rules}
 use Rattle.stabilizer.proofs.Same.{same_body, same-loss, same-state}
 use Rattle.stabilizer.proofs.state.StabilizerState.same.Goals as goal
 
-pub returns-then-self-other : goal.returns-then-self-other
-returns-then-self-other c = record { sound = absurd; complete = λ h. c.if-self-other.true h.qubits }
-
-pub returns-then-self-other-2 : goal.returns-then-self-other-2
-returns-then-self-other-2 c =
-    record { sound = absurd; complete = λ h. c.if-self-other-2.true (same-loss c.args.self.now c.args.other.now h) }
-
-pub returns : goal.returns
-returns c =
+pub returns-then-eq : goal.returns-then-eq
+returns-then-eq c =
     let s = c.args.self.now in
     let t = c.args.other.now in
+    let q : s.qubits ≡ t.qubits = search rules in
+    let l : s.loss ≡ t.loss = search rules in
     record {
-      sound = λ b. same-state s t c.if-self-other.false c.if-self-other-2.false (c.same.ensures.sound b);
+      sound = λ b. same-state s t q l (c.same.ensures.sound b);
       complete = λ h. c.same.ensures.complete (same_body s t h);
     }
+
+pub returns-else-eq-clause-complete : goal.returns-else-eq-clause-complete
+returns-else-eq-clause-complete c = λ h.
+    let s = c.args.self.now in
+    let t = c.args.other.now in
+    let q : s.qubits ≡ t.qubits = h.qubits in
+    let l : s.loss ≡ t.loss = same-loss s t h in
+    search rules
