@@ -1,10 +1,9 @@
 -- The closed form of a sum in every ring, from its value in Z[ω].
-use Rattle.std.proofs.Common.{◌≡◌, inl, inr, ℕ, ◌^◌, ℤ, pos, ◌<ℤ◌, sym, ap, ◌∙◌, ap₂, arith}
-use borrow.Author.Differences.{ints}
+use Rattle.std.proofs.Common.{◌≡◌, inl, inr, ℕ, ◌^◌, pos, sym, ap, ◌∙◌, ap₂, arith}
 use lib.Count.{ones}
 use Rattle.cyclotomic.specs.Adjoin.{omegas}
 use Rattle.cyclotomic.specs.Ring.{Ops, RingLaws}
-use Rattle.cyclotomic.specs.Scalars.{Triple, Kind, triple_of, embedded, chosen, Negative}
+use Rattle.cyclotomic.specs.Scalars.{Triple, Kind, triple_of, embedded, chosen}
 use Rattle.cyclotomic.specs.declared.scalar.Scalar.{Scalar}
 use Rattle.cyclotomic.proofs.Exact.{scalar-kind}
 use Rattle.cyclotomic.proofs.Extend.{transfer, transfer-nil}
@@ -16,23 +15,12 @@ use Rattle.quadratic.specs.Value.{value_at}
 use Rattle.quadratic.specs.declared.intersection.Intersection.{Intersection}
 use Rattle.quadratic.specs.declared.phased.PhasedSpace.{PhasedSpace}
 
-not_negative : (p : ℕ) (z : ℤ) → z ≡ pos p → z <ℤ pos 0 → ⊥
-not_negative p z e l = omega (arith, ints)
-
 -- the power of a sum that is not 0 is a number
 power_of : (i : Intersection) (x : Scalar) → Bounded i x → (triple_of x).0 ≡ 1 → (p : ℕ) × ((triple_of x).1 ≡ pos p)
 power_of i x =
     by_space (λ i. Bounded i x → (triple_of x).0 ≡ 1 → (p : ℕ) × ((triple_of x).1 ≡ pos p))
     (λ b one. let z : ◌≡◌ {A = ℕ} 0 1 = sym (ap (λ t. t.0) b) ∙ one in absurd (omega arith))
     (λ s b one. let p = b one in (p.0, p.1)) i
-
--- the power of an exponential sum is not negative
-pub sum_fits : (i : Intersection) (x : Scalar) → Bounded i x → Negative (triple_of x) → ⊥
-sum_fits i x b n = go (scalar-kind x)
-  where
-    go : Kind (triple_of x) → ⊥
-    go (inl z) = not_negative 0 (triple_of x).1 (ap (λ t. t.1) z) n
-    go (inr h) = let p = power_of i x b h.0 in not_negative p.0 (triple_of x).1 p.1 n
 
 -- an exponential sum is 0 exactly where the sum over all strings is
 pub vanishing : (i : Intersection) (x : Scalar) → Bounded i x → embedded omegas (triple_of x) ≡ total omegas i → Vanishing i x

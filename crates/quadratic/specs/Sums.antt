@@ -1,5 +1,5 @@
 -- Sums of powers of w over the strings of a space, and what is left of one while variables are summed out.
-use Rattle.std.specs.Prelude.{◌≡◌, ℕ, zero, suc, ◌+◌, ◌*◌, ◌%◌, ◌^◌, ◌<◌, ◌≤◌, Bool, true, false, cond, pos, Some, None, Option, MatchOption, ◌==◌, bit_xor, count_ones}
+use Rattle.std.specs.Prelude.{◌≡◌, ℕ, zero, suc, ◌+◌, ◌*◌, ◌%◌, ◌^◌, ◌<◌, ◌≤◌, cond, pos, Some, None, Option, MatchOption, ◌==◌, bit_xor, count_ones}
 use Rattle.std.specs.Option.{option_map_or}
 use Rattle.cyclotomic.specs.Adjoin.{omegas}
 use Rattle.cyclotomic.specs.Ring.{Ops, wpow, rpow, exact}
@@ -66,23 +66,19 @@ pub record Reduced (f f' : QuadraticForm) (live live' power power' gone more : �
   pub count : count_ones live' + gone ≡ count_ones live
   pub powers : power' ≡ power + more
 
--- one step: some variables went, or the sum is 0
+-- one step: some variables went
 pub record Stepped (f f' : QuadraticForm) (live live' power power' : ℕ) : Type 0 where
   pub same : left_of omegas f' live' power' ≡ left_of omegas f live power
   pub fewer : count_ones live' < count_ones live
   pub least : power + count_ones live ≤ power' + count_ones live'
   pub most : power' + 2 * count_ones live' ≤ power + 2 * count_ones live
 
-abbrev pub StepTo : Bool → QuadraticForm → QuadraticForm → ℕ → ℕ → ℕ → ℕ → Type 0
-StepTo true f f' live live' power power' = Stepped f f' live live' power power'
-StepTo false f f' live live' power power' = left_of omegas f live power ≡ omegas.nil
+-- what is left of the sum is 0
+abbrev pub Cancelled : QuadraticForm → ℕ → ℕ → Type 0
+Cancelled f live power = left_of omegas f live power ≡ omegas.nil
 
--- all steps: the sum is 2^(power/2) ω^phase, or 0
+-- all steps: the sum is 2^(power/2) ω^phase
 pub record Ended (f f' : QuadraticForm) (live power power' : ℕ) : Type 0 where
   pub same : exact omegas power' (f'.phase % 8) ≡ left_of omegas f live power
   pub least : power + count_ones live ≤ power'
   pub most : power' ≤ power + 2 * count_ones live
-
-abbrev pub Finished : Bool → QuadraticForm → QuadraticForm → ℕ → ℕ → ℕ → Type 0
-Finished true f f' live power power' = Ended f f' live power power'
-Finished false f f' live power power' = left_of omegas f live power ≡ omegas.nil

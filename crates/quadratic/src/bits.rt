@@ -1,7 +1,7 @@
 ghost use Rattle.std.specs.Prelude.{◌≡◌, ℕ, suc, ◌+◌, ◌*◌, ◌%◌, ◌^◌, ◌<◌, ◌≤◌, length, bit_xor, count_ones, slice_index, MatchOption};
 ghost use Rattle.std.specs.Iterator.{at_most};
 ghost use Rattle.quadratic.specs.Numbering.{place, spread};
-ghost use Rattle.quadratic.specs.Bits.{bit as digit, dot as parity, flag as numeral, Lowest, RowsXor};
+ghost use Rattle.quadratic.specs.Bits.{bit as digit, dot as parity, Lowest, RowsXor};
 
 // Bit i of x.
 pub(crate) fn bit(x: u64, i: usize) -> u64
@@ -66,7 +66,7 @@ pub(crate) fn highest(x: u64) -> usize
     ensures most { x < 2 ^ suc result }
     ensures place { result < 64 }
 {
-    63 - x.leading_zeros() as usize
+    x.ilog2() as usize
 }
 
 // x with bit a turned over.
@@ -106,13 +106,6 @@ pub(crate) fn odd_rows(table: &[u64; 48], w: u64) -> u64
         odd ^= dot(w, *row) << p;
     }
     odd
-}
-
-// A truth value as a bit.
-pub(crate) fn flag(b: bool) -> u64
-    ensures { result ≡ numeral b }
-{
-    if b { 1 } else { 0 }
 }
 
 // The position of the a-th set bit from the top, counted from 1, among the lowest 48.

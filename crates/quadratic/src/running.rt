@@ -93,8 +93,5 @@ pub fn total<R: Ring>(x: &Intersection) -> RunningSum<R>
 pub fn closed_form<R: Ring>(x: &Intersection) -> R
     ensures { R.value result ≡ total_of R.ops x.now }
 {
-    match embed(exponential_sum(x)) {
-        Ok(value) => value,
-        Err(_) => unreachable(),
-    }
+    embed(exponential_sum(x)).unwrap()
 }

@@ -1,8 +1,8 @@
-ghost use Rattle.std.specs.Prelude.{◌≡◌, ℕ, ◌+◌, ◌*◌, ◌^◌, ◌<◌, ◌≤◌, count_ones, slice_index};
+ghost use Rattle.std.specs.Prelude.{◌≡◌, ℕ, ◌+◌, ◌*◌, ◌^◌, ◌<◌, ◌≤◌, MatchOption, count_ones, slice_index};
 ghost use Rattle.cyclotomic.specs.Adjoin.{omegas};
 ghost use Rattle.cyclotomic.specs.Scalars.{triple_of, embedded};
 ghost use Rattle.quadratic.specs.Bits.{bit as digit};
-ghost use Rattle.quadratic.specs.Sums.{Bounded, Between, Vanishing, sum_over, total, Reduced, StepTo, Finished};
+ghost use Rattle.quadratic.specs.Sums.{Bounded, Between, Vanishing, sum_over, total, Reduced, Cancelled, Stepped, Ended};
 
 use crate::bits::{lowest, turned};
 use crate::form::QuadraticForm;
@@ -25,15 +25,15 @@ fn sum_of(s: &PhasedSpace) -> Scalar
     ensures bounds { Between (count_ones s.now.space.pivots) result }
     ensures exact { embedded omegas (triple_of result) ≡ sum_over omegas s.now }
 {
-    let mut sum = Remaining {
+    let sum = Remaining {
         form: s.form(),
         live: s.pivots(),
         power: 0,
     };
-    if !sum.finish() {
-        return Scalar::zero();
+    match sum.finish() {
+        Some(last) => Scalar::term(last.power as i64, last.form.phase()),
+        None => Scalar::zero(),
     }
-    Scalar::term(sum.power as i64, sum.form.phase())
 }
 
 // What is left of a sum: 2^(power/2) times the sum of ω^value over the live variables, the others being 0.
@@ -47,40 +47,40 @@ struct Remaining {
 }
 
 impl Remaining {
-    // Sums out every live variable; false where the sum is 0.
-    fn finish(&mut self) -> bool
-        ensures { Finished result self.old.form self.new.form self.old.live self.old.power self.new.power }
+    // Sums out every live variable; None where the sum is 0.
+    fn finish(mut self) -> Option<Remaining>
+        ensures { MatchOption result (Cancelled self.form self.live self.power)
+            (λ s. Ended self.form s.form self.live self.power s.power) }
     {
         while self.live != 0 {
-            if !self.step() {
-                return false;
-            }
+            self = self.step()?;
         }
-        true
+        Some(self)
     }
 
-    // Sums out one live variable, or two that are coupled; false where the sum is 0.
-    fn step(&mut self) -> bool
-        requires { 0 < self.old.live }
-        ensures { StepTo result self.old.form self.new.form self.old.live self.new.live self.old.power self.new.power }
+    // Sums out one live variable, or two that are coupled; None where the sum is 0.
+    fn step(mut self) -> Option<Remaining>
+        requires { 0 < self.live }
+        ensures { MatchOption result (Cancelled self.form self.live self.power)
+            (λ s. Stepped self.form s.form self.live s.live self.power s.power) }
     {
         let odd = self.form.odd() & self.live;
         if odd != 0 {
             self.sum_odd(lowest(odd));
-            return true;
+            return Some(self);
         }
         let a = lowest(self.live);
         let partners = self.form.partners(a) & self.live;
         if partners != 0 {
             self.sum_pair(a, lowest(partners));
-            return true;
+            return Some(self);
         }
         if self.form.linear(a) != 0 {
-            return false;
+            return None;
         }
         self.live = turned(self.live, a);
         self.power += 2;
-        true
+        Some(self)
     }
 
     // Sums out a variable whose linear coefficient is 2 or 6: 1 + ω^(2 + 4x) is √2 ω^(1 + 6x), and 1 + ω^(6 + 4x) is √2 ω^(7 + 2x).

@@ -5,7 +5,7 @@ ghost use Rattle.quadratic.specs.Echelon.{row, combination as combined, reduced}
 ghost use Rattle.quadratic.specs.Strings.{Member, Half, Cut, OneLess, Moved, Doubled, Shared, Fitting, Appended, Shifted};
 
 use super::{AffineSpace, Outcome};
-use crate::bits::{bit, dot, flag, highest, lowest, set_bits, turned, xor_rows};
+use crate::bits::{bit, dot, highest, lowest, set_bits, turned, xor_rows};
 
 impl AffineSpace {
     // The space of the zero string alone.
@@ -35,10 +35,7 @@ impl AffineSpace {
         ensures yes { T result → (p < 48) × (digit self.now.pivots p ≡ 1) }
         ensures no { digit self.now.pivots p ≡ 1 → T result }
     {
-        if p >= 48 {
-            return false;
-        }
-        bit(self.pivots, p) == 1
+        p < 48 && bit(self.pivots, p) == 1
     }
 
     // The sum of the rows that stand in c.
@@ -131,7 +128,7 @@ impl AffineSpace {
         ensures pivots { OneLess result self.old.pivots self.new.pivots }
     {
         let l = self.responses(w);
-        let beta = dot(w, self.shift) ^ flag(b);
+        let beta = dot(w, self.shift) ^ u64::from(b);
         if l == 0 {
             return if beta == 0 {
                 Outcome::Unchanged
@@ -203,16 +200,10 @@ impl AffineSpace {
             return None;
         }
         let p = highest(added);
-        if p >= 48 {
+        if p >= 48 || self.pivots % turned(0, p + 1) != 0 {
             return None;
         }
-        if self.pivots % turned(0, p + 1) != 0 {
-            return None;
-        }
-        if bit(self.shift, p) == 1 {
-            return None;
-        }
-        if self.column(p) != 0 {
+        if bit(self.shift, p) == 1 || self.column(p) != 0 {
             return None;
         }
         Some(p)
@@ -222,13 +213,9 @@ impl AffineSpace {
     pub(crate) fn append(&mut self, added: u64) -> Option<usize>
         ensures { Appended result self.old self.new added }
     {
-        match self.fitting(added) {
-            Some(p) => {
-                self.insert(added, p);
-                Some(p)
-            }
-            None => None,
-        }
+        let p = self.fitting(added)?;
+        self.insert(added, p);
+        Some(p)
     }
 
     // Another shift, where it is 0 at every pivot.
@@ -246,6 +233,6 @@ impl AffineSpace {
     pub(crate) fn row_at(&self, p: usize) -> u64
         ensures { result ≡ row self.now.rows p }
     {
-        if p < 48 { self.rows[p] } else { 0 }
+        self.rows.get(p).copied().unwrap_or(0)
     }
 }

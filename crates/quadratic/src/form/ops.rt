@@ -69,10 +69,8 @@ impl QuadraticForm {
         requires { a < 48 }
         ensures { (c : ℕ) → value_at self.new c ≡ value_at self.old (bit_xor c (2 ^ a)) }
     {
-        let own = 2 * bit(self.odd, a) + 4 * bit(self.neg, a);
-        let row = self.coupling[a];
-        self.phase = (self.phase + own as u8) % 8;
-        self.neg ^= row;
+        self.phase = (self.phase + self.linear(a) as u8) % 8;
+        self.neg ^= self.coupling[a];
     }
 
     // The form with one value.
@@ -109,10 +107,7 @@ impl QuadraticForm {
     pub(crate) fn coupling(&self, p: usize, q: usize) -> u64
         ensures { result ≡ 4 * link self.now.coupling p q }
     {
-        if p >= 48 {
-            return 0;
-        }
-        if q >= 48 {
+        if p >= 48 || q >= 48 {
             return 0;
         }
         4 * bit(self.coupling[p], q)
@@ -154,8 +149,7 @@ impl QuadraticForm {
         ensures value { value_at self.now (bit_xor c (2 ^ a)) ≡ (value_at self.now c + result) % 8 }
         ensures bound { result ≤ 10 }
     {
-        let own = 2 * bit(self.odd, a) + 4 * bit(self.neg, a);
-        (own + 4 * dot(self.coupling[a], c)) as u8
+        (self.linear(a) + 4 * dot(self.coupling[a], c)) as u8
     }
 
     // Makes the form independent of variable a, by setting that variable to 0.
@@ -178,11 +172,11 @@ impl QuadraticForm {
         ensures values { (c : ℕ) → digit c a ≡ parity mask c → value_at self.new c ≡ value_at self.old c }
         ensures free { (c : ℕ) → value_at self.new (bit_xor c (2 ^ a)) ≡ value_at self.new c }
     {
-        let times = 2 * bit(self.odd, a) + 4 * bit(self.neg, a);
+        let times = self.linear(a) as u8;
         let row = self.coupling[a];
         let rest = row ^ (row & (1 << a));
         self.clear(a);
-        self.add_parity(times as u8, mask);
+        self.add_parity(times, mask);
         self.add_product(mask, rest);
     }
 

@@ -164,13 +164,7 @@ impl PhasedSpace {
     pub fn controlled_flip(&mut self, j: usize, l: usize) -> bool
         ensures { Controlled result self.old self.new j l }
     {
-        if j >= 48 {
-            return false;
-        }
-        if l >= 48 {
-            return false;
-        }
-        if j == l {
+        if j >= 48 || l >= 48 || j == l {
             return false;
         }
         if let Some((quarters, lambda)) = self.factor_along(turned(0, l), 0) {

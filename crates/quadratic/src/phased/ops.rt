@@ -42,13 +42,7 @@ impl PhasedSpace {
     pub fn add_linear(&mut self, p: usize, times: u64) -> bool
         ensures { LinearAdded result self.old self.new p times }
     {
-        if !self.space.is_pivot(p) {
-            return false;
-        }
-        if times > 6 {
-            return false;
-        }
-        if times % 2 == 1 {
+        if !self.space.is_pivot(p) || times > 6 || times % 2 == 1 {
             return false;
         }
         self.form.add_parity(times as u8, turned(0, p));
@@ -59,13 +53,7 @@ impl PhasedSpace {
     pub fn couple(&mut self, p: usize, q: usize) -> bool
         ensures { Coupled result self.old self.new p q }
     {
-        if !self.space.is_pivot(p) {
-            return false;
-        }
-        if !self.space.is_pivot(q) {
-            return false;
-        }
-        if p == q {
+        if !self.space.is_pivot(p) || !self.space.is_pivot(q) || p == q {
             return false;
         }
         self.form.add_product(turned(0, p), turned(0, q));
@@ -130,33 +118,23 @@ impl PhasedSpace {
     pub fn row(&self, a: u64) -> Option<u64>
         ensures { result ≡ row_of self.now a }
     {
-        match nth(self.space.pivots(), a) {
-            Some(p) => Some(self.row_at(p)),
-            None => None,
-        }
+        nth(self.space.pivots(), a).map(|p| self.row_at(p))
     }
 
     // The linear coefficient of row a.
     pub fn linear(&self, a: u64) -> Option<u64>
         ensures { result ≡ linear_of self.now a }
     {
-        match nth(self.space.pivots(), a) {
-            Some(p) => Some(self.linear_at(p)),
-            None => None,
-        }
+        nth(self.space.pivots(), a).map(|p| self.linear_at(p))
     }
 
     // The coupling of rows a and b.
     pub fn coupling(&self, a: u64, b: u64) -> Option<u64>
         ensures { result ≡ coupling_of self.now a b }
     {
-        match nth(self.space.pivots(), a) {
-            Some(p) => match nth(self.space.pivots(), b) {
-                Some(q) => Some(self.coupling_at(p, q)),
-                None => None,
-            },
-            None => None,
-        }
+        let p = nth(self.space.pivots(), a)?;
+        let q = nth(self.space.pivots(), b)?;
+        Some(self.coupling_at(p, q))
     }
 
     // The phase at the string y, if y is in the space.
@@ -175,9 +153,7 @@ impl PhasedSpace {
         ensures phases { Meets result self.now other.now }
         ensures wide { Wide result self.now other.now }
     {
-        let Some(space) = self.space.shared(&other.space) else {
-            return None;
-        };
+        let space = self.space.shared(&other.space)?;
         let mut form = self.form.minus(&other.form);
         let all = self.space.pivots() | other.space.pivots();
         settle(&mut form, &space, all ^ (all & space.pivots()));

@@ -8,8 +8,8 @@ use Rattle.quadratic.proofs.affine.AffineSpace.append.Goals as goal
 pub insert-requires : goal.insert-requires
 insert-requires c =
     let s = c.args.self.now in
-    let p = c.in-Some.p in
-    let f = c.in-Some.ensures in
+    let p = c.in_ok-p.p in
+    let f = c.in_ok-p.ensures in
     record {
       low = lt_of_lt_of_le f.most (pow_mono f.place);
       place = f.place;
@@ -18,12 +18,12 @@ insert-requires c =
       off = below-off s.pivots c.args.added p f.most (above s c.args.added p f);
     }
 
-pub returns-in-Some : goal.returns-in-Some
-returns-in-Some c =
+pub returns : goal.returns
+returns c =
     let s = c.args.self.now in
-    let p = c.in-Some.p in
+    let p = c.in_ok-p.p in
     let g = c.args.added in
-    let f = c.in-Some.ensures in
+    let f = c.in_ok-p.ensures in
     let i = c.insert.ensures in (
       f,
       i.pivots,

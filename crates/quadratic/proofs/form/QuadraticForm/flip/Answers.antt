@@ -1,4 +1,4 @@
-use Rattle.std.proofs.Common.{◌≡◌, ◌+◌, ◌*◌, ◌%◌, ◌^◌, get_or, sym, ap, ◌∙◌, arith}
+use Rattle.std.proofs.Common.{◌+◌, ◌%◌, ◌^◌, get_or, sym, ap, ◌∙◌, arith}
 use lib.Bits.{bit_xor, xor_lt}
 use Rattle.quadratic.specs.Bits.{bit}
 use Rattle.quadratic.specs.Quadratic.{quad, coef, link}
@@ -29,8 +29,7 @@ returns c =
     let D = coef f.odd f.neg in
     let J = link f.coupling in
     let one = quad-one f.phase D J (bit (2 ^ a)) a 48 c.requires (bit-pow a) (λ k ne. bit-pow-other a k ne) in
-    let own : 2 * c.bit.result + 4 * c.bit-2.result ≡ D a = omega (arith, c.bit.ensures.0, c.bit-2.ensures.0) in
     λ p. ap (λ q. quad q (coef f.odd (bit_xor f.neg row)) J (bit p) 48 % 8)
-    (ap (λ d. (f.phase + d) % 8) own ∙ ap (λ q. q % 8) (sym one))
+    (ap (λ d. (f.phase + d) % 8) c.linear.ensures.value ∙ ap (λ q. q % 8) (sym one))
     ∙ value-shift 48 f.phase f.odd f.neg f.coupling (2 ^ a) row p f.inside f.square f.own
     (λ k i. f.square a k ∙ sym (dot-pow (get_or f.coupling k 0) a))

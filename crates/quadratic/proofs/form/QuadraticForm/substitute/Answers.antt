@@ -2,7 +2,6 @@ use Rattle.std.proofs.Common.{◌≡◌, ℕ, ◌+◌, ◌*◌, ◌%◌, ◌^◌
 use lib.Bits.{bit_and, bit_xor}
 use Rattle.std.proofs.lemmas.Nat.{one_shl}
 use Rattle.quadratic.specs.Bits.{dot}
-use Rattle.quadratic.specs.Quadratic.{coef}
 use Rattle.quadratic.specs.Value.{value_at}
 use Rattle.quadratic.proofs.Values.{value-lt}
 use Rattle.quadratic.proofs.Clear.{gone, mask_below, slope-at}
@@ -24,13 +23,12 @@ returns c =
     let h : ℕ = (1 * 2 ^ a) % 2 ^ 64 in
     let e : h ≡ 2 ^ a = one_shl a 64 (omega arith) in
     let rest = bit_xor row (bit_and row h) in
-    let t : ℕ = 2 * c.bit.result + 4 * c.bit-2.result in
-    let te : t ≡ coef f.odd f.neg a = omega (arith, c.bit.ensures.0, c.bit-2.ensures.0) in
+    let t = c.linear-times.result in
     let v = value_at f in
     let v₁ = value_at c.clear.new.self in
     let v₂ = value_at c.add_parity.new.self in
     let v₃ = value_at c.add_product.new.self in
-    let up = λ (p : ℕ). slope-at f a p c.requires.0 ∙ ap (λ d. (value_at f p + (d + 4 * dot row p)) % 8) (sym te) in
+    let up = λ (p : ℕ). slope-at f a p c.requires.0 ∙ ap (λ d. (value_at f p + (d + 4 * dot row p)) % 8) (sym c.linear-times.ensures.value) in
     record {
       values = subst-values a c.args.mask rest row t v v₁ v₂ v₃ (value-lt f) up c.clear.ensures.off
           c.clear.ensures.free c.add_parity.ensures c.add_product.ensures

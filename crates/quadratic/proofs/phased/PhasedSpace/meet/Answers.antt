@@ -1,5 +1,6 @@
 use Rattle.std.proofs.Common.{◌≡◌, ℕ, sym, ap, ◌∙◌, subst}
 use lib.Bits.{bit_and, bit_or, bit_xor}
+use Rattle.quadratic.specs.Phase.{Wide, phase_in}
 use Rattle.quadratic.specs.Value.{value_at}
 use Rattle.quadratic.proofs.Meet.{gone, gone-below, gone-apart, first-shown, second-shown, difference, seen_difference, none-phase}
 use Rattle.quadratic.proofs.Meet.{meet-phase}
@@ -7,9 +8,15 @@ use Rattle.quadratic.proofs.Sight.{Seen, wider}
 use Rattle.quadratic.proofs.Values.{value-lt}
 use Rattle.quadratic.proofs.phased.PhasedSpace.meet.Goals as goal
 
-pub returns-in_default : goal.returns-in_default
-returns-in_default c =
-    record { phases = λ y. none-phase c.args.self.now c.args.other.now y (c.in_default.ensures y); wide = tt }
+pub returns-in_err-space : goal.returns-in_err-space
+returns-in_err-space c =
+    let s = c.args.self.now in
+    let t = c.args.other.now in
+    let e = c.from_residual.ensures in
+    record {
+      phases = λ y. ap (λ r. phase_in r y) e ∙ none-phase s t y (c.in_err-space.ensures y);
+      wide = subst (λ r. Wide r s t) (sym e) tt;
+    }
 
 -- what the code settles
 settled : (P S T p s t : ℕ) → s ≡ S → t ≡ T → p ≡ P → bit_xor (bit_or s t) (bit_and (bit_or s t) p) ≡ gone P S T
@@ -19,7 +26,7 @@ pub settle-requires : goal.settle-requires
 settle-requires c =
     let s = c.args.self.now in
     let t = c.args.other.now in
-    let P = c.in-Some.space.pivots in
+    let P = c.in_ok-space.space.pivots in
     let e = settled P s.space.pivots t.space.pivots _ _ _ c.pivots.ensures c.pivots-2.ensures c.pivots-3.ensures in
     record {
       inside = rw e (gone-below P s.space.pivots t.space.pivots s.space.within t.space.within);
@@ -30,7 +37,7 @@ pub invariant_of-result : goal.invariant_of-result
 invariant_of-result c =
     let s = c.args.self.now in
     let t = c.args.other.now in
-    let P = c.in-Some.space.pivots in
+    let P = c.in_ok-space.space.pivots in
     let S = s.space.pivots in
     let T = t.space.pivots in
     let r = c.minus-form.result in
@@ -49,8 +56,8 @@ returns c =
     let t = c.args.other.now in
     let r = c.minus-form.result in
     record {
-      phases = meet-phase _ s t c.in-Some.ensures
+      phases = meet-phase _ s t c.in_ok-space.ensures
           (λ y m. c.settle.ensures.kept y m ∙ difference (value_at r y) (value_at s.form y) (value_at t.form y)
           (value-lt r y) (value-lt t.form y) (c.minus-form.ensures y));
-      wide = c.in-Some.ensures.wide;
+      wide = c.in_ok-space.ensures.wide;
     }
