@@ -3,7 +3,7 @@ ghost use Rattle.std.specs.Fmt.{WritesOnOk};
 ghost use Rattle.cyclotomic.specs.Scalars.{triple_of};
 ghost use Rattle.listing.specs.Digits.{hex_text};
 ghost use Rattle.listing.specs.Fields.{fields_text};
-ghost use Rattle.listing.specs.Texts.{triple_text};
+ghost use Rattle.cyclotomic.specs.Texts.{triple_text};
 ghost use Rattle.console.specs.Replies.{common_text, refusal_text, reply_text, value_text};
 
 use crate::problem::Problem;
@@ -15,7 +15,6 @@ use cyclotomic::scalar::Scalar;
 use listing::fields::FieldsText;
 use listing::hex::HexBytes;
 use listing::space::SpaceText;
-use listing::text::{ColumnText, ScalarText};
 use quadratic::intersection::Intersection;
 use stabilizer::state::StabilizerState;
 use std::fmt;
@@ -126,22 +125,15 @@ fn write_bytes<W: fmt::Write>(f: &mut fmt::Formatter<W>, bytes: &[u8]) -> fmt::R
 fn write_scalar<W: fmt::Write>(f: &mut fmt::Formatter<W>, scalar: Scalar) -> fmt::Result
     ensures { WritesOnOk W.Write.write_str_gives f.old result (triple_text (triple_of scalar)) f.new }
 {
-    let text = ScalarText(scalar);
-    write!(f, "{text}")
+    write!(f, "{scalar}")
 }
 
 fn write_value<W: fmt::Write>(f: &mut fmt::Formatter<W>, value: RingValue) -> fmt::Result
     ensures { WritesOnOk W.Write.write_str_gives f.old result (value_text value) f.new }
 {
     match value {
-        RingValue::Mod17(x) => {
-            let text = ColumnText(x);
-            write!(f, "{text}")
-        }
-        RingValue::Quad(x) => {
-            let text = ColumnText(x);
-            write!(f, "{text}")
-        }
+        RingValue::Mod17(x) => write!(f, "{x}"),
+        RingValue::Quad(x) => write!(f, "{x}"),
     }
 }
 

@@ -5,7 +5,6 @@
 use circuit::call::Call;
 use circuit::division::{SplitValue, split};
 use cyclotomic::scalar::Scalar;
-use listing::text::ScalarText;
 use stabilizer::state::StabilizerState;
 
 const QUBITS: u64 = 3;
@@ -25,7 +24,7 @@ fn main(rt: HostRuntime) -> anyhow::Result<()> {
             Ok(value) => match value {
                 SplitValue::Value(scalar) => {
                     let mark = mark_beside(scalar, &mut first);
-                    println!(rt; "{place}: {} {mark}", ScalarText(scalar))?;
+                    println!(rt; "{place}: {scalar} {mark}")?;
                 }
                 SplitValue::Aside => println!(rt; "{place}: aside")?,
             },
