@@ -1,12 +1,11 @@
 -- The text of an answer.
-use Rattle.std.specs.Prelude.{ℕ, ℤ, ◌/◌, ◌%◌, List, ◌++◌, codes, decimal, min}
+use Rattle.std.specs.Prelude.{ℕ, ℤ, List, ◌++◌, codes, decimal, min}
 use Rattle.std.specs.Option.{option_map_or}
 use Rattle.std.specs.Fmt.{signed_decimal}
 use Rattle.archive.specs.Faults.{fault_text}
-use Rattle.cyclotomic.specs.Columns.{hex_at, word_at}
 use Rattle.cyclotomic.specs.Scalars.{triple_of}
-use Rattle.cyclotomic.specs.Texts.{refusal_text, triple_text}
-use Rattle.listing.specs.Digits.{glyphs, hex_text}
+use Rattle.cyclotomic.specs.Texts.{refusal_text, residue_text, triple_text, words_text}
+use Rattle.listing.specs.Digits.{hex_text}
 use Rattle.listing.specs.Fields.{dimension_of, fields_text, space_text}
 use Rattle.listing.specs.Texts.{mark_text}
 use Rattle.quadratic.specs.declared.intersection.Intersection.{Intersection}
@@ -34,8 +33,8 @@ problem_text NoMemory = codes "there is no memory for these bytes"
 
 -- two digits of a residue; four words of sixteen
 abbrev pub value_text : RingValue → List ℕ
-value_text (Mod17 v) = glyphs (hex_at 2 v.residue) 0 2
-value_text (Quad v) = glyphs (λ i. hex_at 16 (word_at v.a0 v.a1 v.a2 v.a3 (i / 16)) (i % 16)) 0 64
+value_text (Mod17 v) = residue_text v.residue
+value_text (Quad v) = words_text v.a0 v.a1 v.a2 v.a3
 
 -- an intersection of states of n qubits: its dimension and its space
 abbrev pub common_text : Intersection → ℕ → List ℕ

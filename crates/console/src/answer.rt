@@ -15,7 +15,6 @@ use cyclotomic::scalar::Scalar;
 use listing::fields::FieldsText;
 use listing::hex::HexBytes;
 use listing::space::SpaceText;
-use listing::text::ColumnText;
 use quadratic::intersection::Intersection;
 use stabilizer::state::StabilizerState;
 use std::fmt;
@@ -48,8 +47,8 @@ impl fmt::Display for RingValue {
 
     fn fmt<W: fmt::Write>(&self, f: &mut fmt::Formatter<W>) -> fmt::Result {
         match self {
-            RingValue::Mod17(x) => write!(f, "{}", ColumnText(*x)),
-            RingValue::Quad(x) => write!(f, "{}", ColumnText(*x)),
+            RingValue::Mod17(x) => write!(f, "{x}"),
+            RingValue::Quad(x) => write!(f, "{x}"),
         }
     }
 }

@@ -11,3 +11,4 @@ pub mod Residues
 pub mod Powers
 pub mod Lift
 pub mod Sizes
+pub mod Padded

@@ -1,11 +1,13 @@
-ghost use Rattle.std.specs.Prelude.{◌≡◌, ℕ, ◌/◌, ◌%◌, ◌^◌, ◌<◌};
+ghost use Rattle.std.specs.Prelude.{◌≡◌, ℕ, ◌^◌, ◌<◌, Some};
 ghost use Rattle.std.proofs.Common.{lit<};
 ghost use Rattle.cyclotomic.specs.Adjoin.{quad};
-ghost use Rattle.cyclotomic.specs.Columns.{hex_at, word_at};
+ghost use Rattle.cyclotomic.specs.Columns.{word_at};
 ghost use Rattle.cyclotomic.specs.Modular.{Quad, quads as modular, low};
 ghost use Rattle.cyclotomic.specs.ModularLaws.{quad_laws};
+ghost use Rattle.cyclotomic.specs.Texts.{words_text};
 
-use crate::ring::{Column, Ring};
+use crate::ring::Ring;
+use std::fmt;
 use std::num::Wrapping;
 
 // a0 + a1 ω + a2 ω^2 + a3 ω^3, each coordinate modulo 2^64.
@@ -117,14 +119,11 @@ impl Cyclotomic64 {
     }
 }
 
-impl Column for Cyclotomic64 {
-    ghost DIGITS = { 64 };
+impl fmt::Display for Cyclotomic64 {
+    ghost output = { λ x. Some (words_text x.a0 x.a1 x.a2 x.a3) };
 
-    ghost digit_of = { λ x i. hex_at 16 (word_at x.a0 x.a1 x.a2 x.a3 (i / 16)) (i % 16) };
-
-    const DIGITS: usize = 64;
-
-    fn digit(self, place: usize) -> u8 {
-        ((self.word(place / 16) >> (60 - 4 * (place % 16))) % 16) as u8
+    fn fmt<W: fmt::Write>(&self, f: &mut fmt::Formatter<W>) -> fmt::Result {
+        let Cyclotomic64 { a0, a1, a2, a3 } = *self;
+        write!(f, "{a0:016x}{a1:016x}{a2:016x}{a3:016x}")
     }
 }

@@ -1,4 +1,4 @@
-ghost use Rattle.std.specs.Prelude.{◌≡◌, ℕ, ◌<◌, T};
+ghost use Rattle.std.specs.Prelude.{◌≡◌, T};
 ghost use Rattle.cyclotomic.specs.Ring.{Ops, RingLaws};
 
 // A commutative ring with an element omega whose fourth power is -1. The ghost members say which ring: its carrier, which value of it
@@ -34,18 +34,4 @@ pub trait Ring: Copy {
     fn equal(self, other: Self) -> bool
         ensures sound { T result → value self ≡ value other }
         ensures complete { value self ≡ value other → T result };
-}
-
-// A ring that is printed in hexadecimal digits, of a fixed number.
-pub trait Column: Ring {
-    ghost DIGITS: { ℕ };
-
-    ghost digit_of: { Self → ℕ → ℕ };
-
-    // The number of digits.
-    const DIGITS: usize;
-
-    // The digit at a place, counted from 0 at the left; 0 past the end.
-    fn digit(self, place: usize) -> u8
-        ensures { (result ≡ digit_of self place) × (result < 16) };
 }

@@ -4,27 +4,8 @@ use Rattle.std.proofs.lemmas.List.{drop_all, drop_more, ext_get_or, take_rest}
 use Rattle.std.specs.Fmt.{HasWritten}
 use Rattle.std.specs.declared.fmt.Formatter.{Formatter}
 use Rattle.quadratic.specs.Bits.{bit}
-use Rattle.listing.specs.Digits.{glyph_of, glyphs, byte_text, pairs_text}
+use Rattle.listing.specs.Digits.{byte_text, pairs_text}
 use Rattle.listing.specs.Fields.{bits_text}
-
-pub length-glyphs : (f : ℕ → ℕ) (at n : ℕ) → length (glyphs f at n) ≡ n
-length-glyphs f at zero = refl
-length-glyphs f at (suc n) = ap suc (length-glyphs f (at + 1) n)
-
-pub glyphs-at : (f : ℕ → ℕ) (at n k : ℕ) → k < n → get_or (glyphs f at n) k 0 ≡ glyph_of (f (at + k))
-glyphs-at f at zero k h = absurd (omega arith)
-glyphs-at f at (suc n) zero h = ap (λ (z : ℕ). glyph_of (f z)) (sym (add-zero at))
-glyphs-at f at (suc n) (suc k) h = glyphs-at f (at + 1) n k (omega arith) ∙ ap (λ (z : ℕ). glyph_of (f z)) (omega arith)
-
--- a list that has the digits of f at its places begins with them
-pub glyphs-front : (f : ℕ → ℕ) (xs : List ℕ) (n m : ℕ) → length xs ≡ m → n ≤ m → ((k : ℕ) → k < m → get_or xs k 0 ≡ glyph_of (f k))
-    → take n xs ≡ glyphs f 0 n
-glyphs-front f xs n m e h each =
-    let size : length (take n xs) ≡ n = length-take-le n xs (omega (arith, e)) in
-    ext_get_or 0 (take n xs) (glyphs f 0 n) (size ∙ sym (length-glyphs f 0 n))
-    (λ k lt.
-    let below : k < n = omega (arith, size) in
-    get_or-take n xs k 0 below ∙ (each k (omega arith) ∙ (ap (λ (z : ℕ). glyph_of (f z)) (sym (zero-add k)) ∙ sym (glyphs-at f 0 n k below))))
 
 -- a list of 48 digits that are the lowest bits of y, the highest first, ends with its n lowest
 bits-back : (xs : List ℕ) (y n : ℕ) → length xs ≡ 48 → n ≤ 48

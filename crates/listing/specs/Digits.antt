@@ -1,15 +1,7 @@
 -- Hexadecimal digits as they are printed.
 use Rattle.std.specs.Prelude.{◌≡◌, ℕ, zero, suc, ◌+◌, ◌-◌, ◌*◌, ◌/◌, ◌%◌, ◌<◌, true, cond, ◌⊎◌, List, [], ◌∷◌, ◌++◌, length, codes, is_some, Some, None, Option, nat_lt, slice_index}
 use Rattle.std.specs.Option.{unwrap_or}
-
--- the byte that stands for a digit, in small letters
-abbrev pub glyph_of : ℕ → ℕ
-glyph_of d = cond (nat_lt d 10) (48 + d) (87 + d)
-
--- the digits f gives from a place on, n of them
-abbrev pub glyphs : (ℕ → ℕ) → ℕ → ℕ → List ℕ
-glyphs f at zero = []
-glyphs f at (suc n) = glyph_of (f at) ∷ glyphs f (at + 1) n
+use Rattle.cyclotomic.specs.Columns.{glyph_of}
 
 -- the number that a byte stands for as a digit, in small or capital letters
 abbrev pub nibble_of : ℕ → Option ℕ

@@ -1,14 +1,12 @@
 -- The text of each part of a listing.
-use Rattle.std.specs.Prelude.{ℕ, ◌/◌, ◌%◌, Bool, true, false, List, ◌++◌, Some, None, Ok, Err, codes, decimal, Option, Result}
-use Rattle.cyclotomic.specs.Columns.{hex_at, word_at}
+use Rattle.std.specs.Prelude.{ℕ, Bool, true, false, List, ◌++◌, Some, None, Ok, Err, codes, decimal, Option, Result}
 use Rattle.cyclotomic.specs.Scalars.{triple_of}
-use Rattle.cyclotomic.specs.Texts.{refusal_text, triple_text}
+use Rattle.cyclotomic.specs.Texts.{refusal_text, residue_text, triple_text, words_text}
 use Rattle.cyclotomic.specs.declared.refusal.Refusal.{Refusal}
 use Rattle.cyclotomic.specs.declared.scalar.Scalar.{Scalar}
 use Rattle.listing.specs.declared.columns.Columns.{Columns}
 use Rattle.listing.specs.declared.comparison.Comparison.{Comparison}
 use Rattle.listing.specs.declared.line.Line.{Line}
-use Rattle.listing.specs.Digits.{glyphs}
 
 -- ε p m
 abbrev pub scalar_text : Scalar → List ℕ
@@ -17,9 +15,7 @@ scalar_text x = triple_text (triple_of x)
 -- two digits of a residue; four words of sixteen
 abbrev pub columns_text : Option Columns → List ℕ
 columns_text None = codes "-- --"
-columns_text (Some c) =
-    glyphs (hex_at 2 c.residue.residue) 0 2
-    ++ (codes " " ++ glyphs (λ i. hex_at 16 (word_at c.quad.a0 c.quad.a1 c.quad.a2 c.quad.a3 (i / 16)) (i % 16)) 0 64)
+columns_text (Some c) = residue_text c.residue.residue ++ (codes " " ++ words_text c.quad.a0 c.quad.a1 c.quad.a2 c.quad.a3)
 
 abbrev pub mark_text : Bool → List ℕ
 mark_text true = codes "="

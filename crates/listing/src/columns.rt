@@ -1,11 +1,13 @@
-ghost use Rattle.std.specs.Prelude.{◌≡◌};
+ghost use Rattle.std.specs.Prelude.{Some};
 ghost use Rattle.listing.specs.Sums.{ColumnsOf};
+ghost use Rattle.listing.specs.Texts.{columns_text};
 
 use cyclotomic::mod17::Mod17;
 use cyclotomic::quads::Cyclotomic64;
 use cyclotomic::ring::Ring;
 use quadratic::intersection::Intersection;
 use quadratic::running::closed_form;
+use std::fmt;
 
 // The sum over all strings of an intersection, in each of the two rings. Its closed form is proved to be the same as adding the
 // strings one by one.
@@ -26,4 +28,12 @@ pub fn columns_of(x: &Intersection) -> Option<Columns>
         residue: closed_form(x),
         quad: closed_form(x),
     })
+}
+
+impl fmt::Display for Columns {
+    ghost output = { λ x. Some (columns_text (Some x)) };
+
+    fn fmt<W: fmt::Write>(&self, f: &mut fmt::Formatter<W>) -> fmt::Result {
+        write!(f, "{} {}", self.residue, self.quad)
+    }
 }

@@ -2,7 +2,6 @@ ghost use Rattle.std.specs.Prelude.{Some};
 ghost use Rattle.listing.specs.Texts.{comparison_text};
 
 use crate::columns::Columns;
-use crate::text::ColumnsText;
 use cyclotomic::scalar::Scalar;
 use std::fmt;
 
@@ -21,6 +20,9 @@ impl fmt::Display for Comparison {
 
     fn fmt<W: fmt::Write>(&self, f: &mut fmt::Formatter<W>) -> fmt::Result {
         let mark = if self.equal { "=" } else { "." };
-        write!(f, "{} {} {mark}", self.overlap, ColumnsText(self.columns))
+        match self.columns {
+            Some(columns) => write!(f, "{} {columns} {mark}", self.overlap),
+            None => write!(f, "{} -- -- {mark}", self.overlap),
+        }
     }
 }

@@ -6,18 +6,6 @@ ghost use Rattle.listing.specs.Digits.{glyph_of, nibble_of, Digits, Paired, digi
 use std::alloc::AllocError;
 use std::fmt;
 
-// The small hexadecimal digit of a number below 16, and of any other number its last digit.
-pub fn glyph(digit: u8) -> u8
-    ensures digit { digit < 16 → result ≡ glyph_of digit }
-    ensures ascii { result < 128 }
-    ensures last { result ≡ glyph_of (digit % 16) }
-{
-    match digit % 16 {
-        d if d < 10 => b'0' + d,
-        d => b'a' - 10 + d,
-    }
-}
-
 // The number that a hexadecimal digit stands for.
 pub fn nibble(digit: u8) -> Option<u8>
     ensures value { result ≡ nibble_of digit }

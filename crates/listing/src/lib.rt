@@ -11,4 +11,3 @@ pub mod pair;
 mod pairs;
 pub mod sheets;
 pub mod space;
-pub mod text;
