@@ -5,6 +5,7 @@
 use archive::load::load;
 use cyclotomic::mod17::Mod17;
 use cyclotomic::quads::Cyclotomic64;
+use cyclotomic::ring::Column;
 use quadratic::intersection::Intersection;
 use quadratic::running::total;
 use stabilizer::overlap::{intersect, overlap};
@@ -53,7 +54,7 @@ impl Tally {
         let quads = total::<Cyclotomic64>(&both);
         self.count = self.count.wrapping_add(residues.count());
         self.count = self.count.wrapping_add(quads.count());
-        self.note(u64::from(residues.value().residue() % 16));
+        self.note(u64::from(residues.value().digit(1)));
         self.note(quads.value().word(0));
     }
 

@@ -1,10 +1,11 @@
-ghost use Rattle.std.specs.Prelude.{◌≡◌, ℕ, ◌<◌, ◌%◌, Some};
+ghost use Rattle.std.specs.Prelude.{◌≡◌, ℕ, ◌<◌, ◌%◌, Some, refl};
+ghost use Rattle.cyclotomic.specs.Columns.{hex_at};
 ghost use Rattle.std.proofs.Common.{lit<};
 ghost use Rattle.cyclotomic.specs.Modular.{Below as Residue, seventeen, low};
 ghost use Rattle.cyclotomic.specs.ModularLaws.{seventeen_laws};
 ghost use Rattle.cyclotomic.specs.Texts.{residue_text};
 
-use crate::ring::Ring;
+use crate::ring::{Column, Ring};
 use std::fmt;
 
 // A number modulo 17, where 2 is an eighth root of one.
@@ -15,13 +16,6 @@ pub struct Mod17 {
 }
 
 impl Mod17 {
-    // The number from 0 to 16 that stands for it.
-    pub fn residue(self) -> u8
-        ensures { result ≡ self.residue }
-    {
-        self.residue
-    }
-
     // What a number is modulo 17.
     fn reduced(number: u16) -> Mod17
         ensures { result.residue ≡ number % 17 }
@@ -70,10 +64,28 @@ impl Ring for Mod17 {
     }
 }
 
+impl Column for Mod17 {
+    ghost DIGITS = { 2 };
+
+    ghost digit_of = { λ x i. hex_at 2 x.residue i };
+
+    ghost printed = { λ x. refl };
+
+    const DIGITS: usize = 2;
+
+    fn digit(self, place: usize) -> u8 {
+        match place {
+            0 => self.residue / 16,
+            1 => self.residue % 16,
+            _ => 0,
+        }
+    }
+}
+
 impl fmt::Display for Mod17 {
     ghost output = { λ x. Some (residue_text x.residue) };
 
     fn fmt<W: fmt::Write>(&self, f: &mut fmt::Formatter<W>) -> fmt::Result {
-        write!(f, "{:02x}", self.residue)
+        write!(f, "{:0digits$x}", self.residue, digits = Mod17::DIGITS)
     }
 }

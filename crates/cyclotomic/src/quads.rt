@@ -1,12 +1,12 @@
-ghost use Rattle.std.specs.Prelude.{◌≡◌, ℕ, ◌^◌, ◌<◌, Some};
+ghost use Rattle.std.specs.Prelude.{◌≡◌, ℕ, ◌/◌, ◌%◌, ◌^◌, ◌<◌, Some, refl};
 ghost use Rattle.std.proofs.Common.{lit<};
 ghost use Rattle.cyclotomic.specs.Adjoin.{quad};
-ghost use Rattle.cyclotomic.specs.Columns.{word_at};
+ghost use Rattle.cyclotomic.specs.Columns.{hex_at, word_at};
 ghost use Rattle.cyclotomic.specs.Modular.{Quad, quads as modular, low};
 ghost use Rattle.cyclotomic.specs.ModularLaws.{quad_laws};
 ghost use Rattle.cyclotomic.specs.Texts.{words_text};
 
-use crate::ring::Ring;
+use crate::ring::{Column, Ring};
 use std::fmt;
 use std::num::Wrapping;
 
@@ -119,11 +119,26 @@ impl Cyclotomic64 {
     }
 }
 
+impl Column for Cyclotomic64 {
+    ghost DIGITS = { 64 };
+
+    ghost digit_of = { λ x i. hex_at 16 (word_at x.a0 x.a1 x.a2 x.a3 (i / 16)) (i % 16) };
+
+    ghost printed = { λ x. refl };
+
+    const DIGITS: usize = 64;
+
+    fn digit(self, place: usize) -> u8 {
+        ((self.word(place / 16) >> (60 - 4 * (place % 16))) % 16) as u8
+    }
+}
+
 impl fmt::Display for Cyclotomic64 {
     ghost output = { λ x. Some (words_text x.a0 x.a1 x.a2 x.a3) };
 
     fn fmt<W: fmt::Write>(&self, f: &mut fmt::Formatter<W>) -> fmt::Result {
         let Cyclotomic64 { a0, a1, a2, a3 } = *self;
-        write!(f, "{a0:016x}{a1:016x}{a2:016x}{a3:016x}")
+        let width = Cyclotomic64::DIGITS / 4;
+        write!(f, "{a0:0width$x}{a1:0width$x}{a2:0width$x}{a3:0width$x}")
     }
 }

@@ -1,5 +1,8 @@
-ghost use Rattle.std.specs.Prelude.{◌≡◌, T};
+ghost use Rattle.std.specs.Prelude.{◌≡◌, ℕ, ◌<◌, Some, T};
+ghost use Rattle.cyclotomic.specs.Columns.{glyphs};
 ghost use Rattle.cyclotomic.specs.Ring.{Ops, RingLaws};
+
+use std::fmt;
 
 // A commutative ring with an element omega whose fourth power is -1. The ghost members say which ring: its carrier, which value of it
 // a record stands for, its operations, and that they keep the laws.
@@ -34,4 +37,22 @@ pub trait Ring: Copy {
     fn equal(self, other: Self) -> bool
         ensures sound { T result → value self ≡ value other }
         ensures complete { value self ≡ value other → T result };
+}
+
+// A ring that is printed in hexadecimal digits, of a fixed number.
+pub trait Column: Ring + fmt::Display {
+    ghost DIGITS: { ℕ };
+
+    ghost digit_of: { Self → ℕ → ℕ };
+
+    // The number of digits.
+    const DIGITS: usize;
+
+    // The digit at a place, counted from 0 at the left; 0 past the end.
+    fn digit(self, place: usize) -> u8
+        ensures value { result ≡ digit_of self place }
+        ensures small { result < 16 };
+
+    // A value is printed as its digits.
+    ghost printed: { (x : Self) → Self.output x ≡ Some (glyphs (digit_of x) 0 DIGITS) };
 }
