@@ -25,13 +25,13 @@ fn sum_of(s: &PhasedSpace) -> Scalar
     ensures bounds { Between (count_ones s.now.space.pivots) result }
     ensures exact { embedded omegas (triple_of result) ≡ sum_over omegas s.now }
 {
-    let sum = Remaining {
+    let mut sum = Remaining {
         form: s.form(),
         live: s.pivots(),
         power: 0,
     };
     match sum.finish() {
-        Some(last) => Scalar::term(last.power as i64, last.form.phase()),
+        Some(()) => Scalar::term(sum.power as i64, sum.form.phase()),
         None => Scalar::zero(),
     }
 }
@@ -47,40 +47,40 @@ struct Remaining {
 }
 
 impl Remaining {
-    // Sums out every live variable; None where the sum is 0.
-    fn finish(mut self) -> Option<Remaining>
-        ensures { MatchOption result (Cancelled self.form self.live self.power)
-            (λ s. Ended self.form s.form self.live self.power s.power) }
+    // Sums out every live variable; None where the sum is 0. The sum stays in its place: handed on by value, it made listings a third slower.
+    fn finish(&mut self) -> Option<()>
+        ensures { MatchOption result (Cancelled self.old.form self.old.live self.old.power)
+            (λ _. Ended self.old.form self.new.form self.old.live self.old.power self.new.power) }
     {
         while self.live != 0 {
-            self = self.step()?;
+            self.step()?;
         }
-        Some(self)
+        Some(())
     }
 
     // Sums out one live variable, or two that are coupled; None where the sum is 0.
-    fn step(mut self) -> Option<Remaining>
-        requires { 0 < self.live }
-        ensures { MatchOption result (Cancelled self.form self.live self.power)
-            (λ s. Stepped self.form s.form self.live s.live self.power s.power) }
+    fn step(&mut self) -> Option<()>
+        requires { 0 < self.old.live }
+        ensures { MatchOption result (Cancelled self.old.form self.old.live self.old.power)
+            (λ _. Stepped self.old.form self.new.form self.old.live self.new.live self.old.power self.new.power) }
     {
         let odd = self.form.odd() & self.live;
         if odd != 0 {
             self.sum_odd(lowest(odd));
-            return Some(self);
+            return Some(());
         }
         let a = lowest(self.live);
         let partners = self.form.partners(a) & self.live;
         if partners != 0 {
             self.sum_pair(a, lowest(partners));
-            return Some(self);
+            return Some(());
         }
         if self.form.linear(a) != 0 {
             return None;
         }
         self.live = turned(self.live, a);
         self.power += 2;
-        Some(self)
+        Some(())
     }
 
     // Sums out a variable whose linear coefficient is 2 or 6: 1 + ω^(2 + 4x) is √2 ω^(1 + 6x), and 1 + ω^(6 + 4x) is √2 ω^(7 + 2x).

@@ -4,12 +4,12 @@ use Rattle.quadratic.proofs.Eliminate.{ended}
 use Rattle.quadratic.proofs.Lowest.{ones-zero}
 use Rattle.quadratic.proofs.sum.Remaining.finish.Goals as goal
 
-pub returns-in_err-self : goal.returns-in_err-self
-returns-in_err-self c = rw c.from_residual.ensures (sym c.loop-self.invariant.same ∙ c.in_err-self.ensures)
+pub returns-in_err-step : goal.returns-in_err-step
+returns-in_err-step c = rw c.from_residual.ensures (sym c.loop-self.invariant.same ∙ c.in_err-step.ensures)
 
 pub loop-self-preserved : goal.loop-self-preserved
 loop-self-preserved c =
-    let s = c.in_ok-self.ensures in
+    let s = c.in_ok-step.ensures in
     let inv = c.loop-self.invariant in
     record { same = s.same ∙ inv.same; least = omega (arith, s.least, inv.least); most = omega (arith, s.most, inv.most) }
 

@@ -22,11 +22,11 @@ pub returns-then-odd-ne0 : goal.returns-then-odd-ne0
 returns-then-odd-ne0 c = stepped _ _ _ _ _ _ 1 1 (omega arith) (omega arith) (omega arith) c.sum_odd.ensures
 
 pub partners-requires : goal.partners-requires
-partners-requires c = let s = c.args.self in set_below 48 s.live c.lowest-a.result s.inside c.lowest-a.ensures.on
+partners-requires c = let s = c.args.self.now in set_below 48 s.live c.lowest-a.result s.inside c.lowest-a.ensures.on
 
 pub sum_pair-requires : goal.sum_pair-requires
 sum_pair-requires c =
-    let s = c.args.self in
+    let s = c.args.self.now in
     let a = c.lowest-a.result in
     let b = c.lowest-then-partners-ne0.result in
     let both = bits-both c.partners.result s.live b c.lowest-then-partners-ne0.ensures.on in
@@ -42,7 +42,7 @@ returns-then-partners-ne0 c = stepped _ _ _ _ _ _ 2 2 (omega arith) (omega arith
 
 pub returns-then-linear-ne0 : goal.returns-then-linear-ne0
 returns-then-linear-ne0 c =
-    let s = c.args.self in
+    let s = c.args.self.now in
     let a = c.lowest-a.result in
     let none = ap (λ x. bit_and x s.live) (sym c.odd.ensures) ∙ c.if-odd-ne0.false in
     dead-left s.form s.live a s.inside c.lowest-a.ensures.on
@@ -50,18 +50,18 @@ returns-then-linear-ne0 c =
     (even s.form.odd s.live a none c.lowest-a.ensures.on) s.power
     (λ z. c.if-linear-ne0.true (c.linear.ensures.value ∙ z))
 
-pub turned-requires : goal.turned-requires
-turned-requires c = let s = c.args.self in let l =
+pub turned-self-requires : goal.turned-self-requires
+turned-self-requires c = let s = c.args.self.now in let l =
     set_below 48 s.live c.lowest-a.result s.inside c.lowest-a.ensures.on in omega arith
 
 pub invariant_of-self : goal.invariant_of-self
 invariant_of-self c =
-    let s = c.args.self in
+    let s = c.args.self.now in
     let a = c.lowest-a.result in
     let l = set_below 48 s.live a s.inside c.lowest-a.ensures.on in
-    let e = c.turned.ensures in
+    let e = c.turned-self.ensures in
     let n = ap (λ x. ones x + 1) e ∙ ones-drop s.live a s.inside c.lowest-a.ensures.on in
-    let few : s.power + 2 + 2 * ones c.turned.result ≤ 96 = omega (arith, n, s.few) in
+    let few : s.power + 2 + 2 * ones c.turned-self.result ≤ 96 = omega (arith, n, s.few) in
     record {
       inside = rw e (xor_lt 48 s.live (2 ^ a) s.inside (pow-lt l));
       few = few;
@@ -69,16 +69,16 @@ invariant_of-self c =
 
 pub returns : goal.returns
 returns c =
-    let s = c.args.self in
+    let s = c.args.self.now in
     let a = c.lowest-a.result in
-    let r = c.turned.result in
+    let r = c.turned-self.result in
     let none = ap (λ x. bit_and x s.live) (sym c.odd.ensures) ∙ c.if-odd-ne0.false in
     stepped _ _ _ _ _ _ 1 2 (omega arith) (omega arith) (omega arith)
     (record {
       same = lone-left s.form s.live a s.inside c.lowest-a.ensures.on
           (ap (λ x. bit_and x s.live) (sym c.partners.ensures) ∙ c.if-partners-ne0.false)
-          (even s.form.odd s.live a none c.lowest-a.ensures.on) r s.power c.turned.ensures
+          (even s.form.odd s.live a none c.lowest-a.ensures.on) r s.power c.turned-self.ensures
           (sym c.linear.ensures.value ∙ c.if-linear-ne0.false);
-      count = ap (λ x. ones x + 1) c.turned.ensures ∙ ones-drop s.live a s.inside c.lowest-a.ensures.on;
+      count = ap (λ x. ones x + 1) c.turned-self.ensures ∙ ones-drop s.live a s.inside c.lowest-a.ensures.on;
       powers = refl;
     })
