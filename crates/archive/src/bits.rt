@@ -2,7 +2,8 @@
 ghost use Rattle.std.specs.Prelude.{◌≡◌, ℕ, ◌+◌, ◌-◌, ◌*◌, ◌/◌, ◌%◌, ◌^◌, ◌<◌, ◌≤◌, length, ◌≢◌};
 ghost use Rattle.archive.specs.Bits.{bit_at, bits_from, Framed};
 
-// The number in the bits from a place on, read a byte at a time.
+// The number in the bits from a place on, read a byte at a time. The first and the last step may be shorter than the others, so there
+// are no equal parts to go over.
 pub(crate) fn bits_at(bytes: &[u8], at: usize, width: usize) -> u64
     requires there { at + width ≤ 8 * length bytes.now }
     requires narrow { width ≤ 64 }

@@ -42,6 +42,7 @@ pub fn load(heap: Global, archive: &[u8]) -> Result<Vec<StabilizerState>, LoadEr
     let count = counted(archive)?;
     let mut states = Vec::new(heap);
     let mut at = 8;
+    // A state says only where it ends, so there is nothing to go over but numbers.
     for i in 0..count {
         let end = skip(archive, at, i, 1)?;
         states.push(build(archive, at))?;

@@ -10,6 +10,7 @@ ghost use Rattle.host.specs.Answers.{pair_denial, pair_number, entry_number, wor
 use archive::codec::read;
 use archive::container::Denial;
 use archive::fault::StateFault;
+use cyclotomic::refusal::Refusal;
 use cyclotomic::scalar::Scalar;
 use stabilizer::state::StabilizerState;
 
@@ -45,7 +46,7 @@ pub fn overlap(t: &[u8], s: &[u8], answer: &mut [u8]) -> u8
     ensures rest { (k : ℕ) → 4 ≤ k → slice_index answer.new k ≡ slice_index answer.old k }
 {
     if answer.len() < 4 {
-        return 13;
+        return Refusal::Buffer.number() as u8;
     }
     match overlap_of(t, s) {
         Ok(x) => {
