@@ -1,5 +1,5 @@
 -- Hexadecimal digits as they are printed.
-use Rattle.std.specs.Prelude.{◌≡◌, ℕ, zero, suc, ◌+◌, ◌-◌, ◌*◌, ◌/◌, ◌%◌, ◌<◌, true, cond, ◌⊎◌, List, [], ◌∷◌, ◌++◌, length, codes, is_some, Some, None, Option, nat_lt, slice_index}
+use Rattle.std.specs.Prelude.{◌≡◌, ℕ, ◌+◌, ◌-◌, ◌*◌, ◌/◌, ◌%◌, ◌<◌, true, cond, ◌⊎◌, List, [], ◌∷◌, ◌++◌, length, codes, is_some, Some, None, Option, nat_lt, slice_index}
 use Rattle.std.specs.Option.{unwrap_or}
 use Rattle.cyclotomic.specs.Columns.{glyph_of}
 

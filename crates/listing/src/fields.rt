@@ -13,13 +13,17 @@ impl fmt::Display for FieldsText<'_> {
     ghost output = { λ x. Some (fields_text x.0.now) };
 
     fn fmt<W: fmt::Write>(&self, f: &mut fmt::Formatter<W>) -> fmt::Result {
-        let qubits = self.0.qubits();
-        let dimension = self.0.dimension();
-        let weight = self.0.weight();
-        let text = SpaceText {
-            space: self.0.body(),
+        let state = self.0;
+        let qubits = state.qubits();
+        let space = SpaceText {
+            space: state.body(),
             qubits,
         };
-        write!(f, "{qubits} {dimension} {weight} {text}")
+        write!(
+            f,
+            "{qubits} {} {} {space}",
+            state.dimension(),
+            state.weight()
+        )
     }
 }

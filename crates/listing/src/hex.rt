@@ -1,12 +1,11 @@
-ghost use Rattle.std.specs.Prelude.{◌≡◌, ℕ, ◌%◌, ◌<◌, ◌≤◌, length, IfSome, Some, MatchBool, MatchOption, OnOk};
-ghost use Rattle.std.specs.Option.{unwrap_or};
+ghost use Rattle.std.specs.Prelude.{◌≡◌, ◌<◌, IfSome, Some, MatchBool, MatchOption, OnOk};
 ghost use Rattle.std.specs.Fmt.{WritesOnOk};
-ghost use Rattle.listing.specs.Digits.{glyph_of, nibble_of, Digits, Paired, digits_of, Decoded, byte_text, hex_text};
+ghost use Rattle.listing.specs.Digits.{nibble_of, Digits, Paired, digits_of, Decoded, hex_text};
 
 use std::alloc::AllocError;
 use std::fmt;
 
-// The number that a hexadecimal digit stands for.
+// The number that a hexadecimal digit stands for. By cases, since `to_digit` of a char answers a u32.
 pub fn nibble(digit: u8) -> Option<u8>
     ensures value { result ≡ nibble_of digit }
     ensures small { IfSome result (λ d. d < 16) }

@@ -16,6 +16,7 @@ pub(crate) fn write_pairs<T: OfPair, O: Write>(
     ensures { OnOk result (Writes (Lines T.text T.tells states.now (IsPair (length states.now)))
         (O.contents out.old) (O.contents out.new)) }
 {
+    // by places: a place numbers the lines, and the second states are those behind it
     for i in 0..states.len() {
         write_pairs_of::<T, O>(out, states, i)?;
     }

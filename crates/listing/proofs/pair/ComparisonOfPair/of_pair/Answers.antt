@@ -1,4 +1,3 @@
-use Rattle.std.proofs.Common.{refl}
 use Rattle.listing.proofs.pair.ComparisonOfPair.of_pair.Goals as goal
 
 pub returns : goal.returns
