@@ -1,6 +1,7 @@
 pub mod Laws
 pub mod OneBit
 pub mod Steps
+pub mod Cursors
 pub mod Rows
 pub mod Whole
 pub mod States

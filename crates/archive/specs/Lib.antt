@@ -2,6 +2,7 @@ pub mod Bits
 pub mod Faults
 pub mod First
 pub mod Layout
+pub mod Cursors
 pub mod Archives
 pub mod Denials
 pub mod Held

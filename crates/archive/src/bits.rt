@@ -1,8 +1,6 @@
 // The bits of a run of bytes, the most significant bit of a byte first.
-ghost use Rattle.std.specs.Prelude.{◌≡◌, ℕ, ◌+◌, ◌-◌, ◌*◌, ◌/◌, ◌%◌, ◌^◌, ◌<◌, ◌≤◌, length, MatchResult, ◌≢◌};
+ghost use Rattle.std.specs.Prelude.{◌≡◌, ℕ, ◌+◌, ◌-◌, ◌*◌, ◌/◌, ◌%◌, ◌^◌, ◌<◌, ◌≤◌, length, ◌≢◌};
 ghost use Rattle.archive.specs.Bits.{bit_at, bits_from, Framed};
-
-use crate::fault::{BitsFault, Field};
 
 // The number in the bits from a place on, read a byte at a time.
 pub(crate) fn bits_at(bytes: &[u8], at: usize, width: usize) -> u64
@@ -21,35 +19,6 @@ pub(crate) fn bits_at(bytes: &[u8], at: usize, width: usize) -> u64
         done += step;
     }
     value
-}
-
-// Whether the bits of a field are all there.
-pub(crate) fn demand(bytes: &[u8], at: usize, width: usize, field: Field) -> Result<(), BitsFault>
-    requires narrow { width ≤ 64 }
-    requires near { at ≤ 2 ^ 32 }
-    ensures { MatchResult result (λ _. at + width ≤ 8 * length bytes.now)
-        (λ f. (8 * length bytes.now < at + width) × (f ≡ record { field = field; place = at })) }
-{
-    if (at + width).div_ceil(8) > bytes.len() {
-        return Err(BitsFault { field, place: at });
-    }
-    Ok(())
-}
-
-// The number in a field, unless the bytes end inside it.
-pub(crate) fn number_at(
-    bytes: &[u8],
-    at: usize,
-    width: usize,
-    field: Field,
-) -> Result<u64, BitsFault>
-    requires narrow { width ≤ 64 }
-    requires near { at ≤ 2 ^ 32 }
-    ensures { MatchResult result (λ v. (at + width ≤ 8 * length bytes.now) × (v ≡ bits_from bytes.now at width))
-        (λ f. (8 * length bytes.now < at + width) × (f ≡ record { field = field; place = at })) }
-{
-    demand(bytes, at, width, field)?;
-    Ok(bits_at(bytes, at, width))
 }
 
 // Puts a bit in its place; every other bit stays.

@@ -5,6 +5,7 @@ mod bits;
 mod build;
 pub mod codec;
 pub mod container;
+mod cursor;
 pub mod fault;
 mod layout;
 pub mod load;
