@@ -1,8 +1,8 @@
-ghost use Rattle.std.specs.Prelude.{◌≡◌, Some};
+ghost use Rattle.std.specs.Prelude.{◌≡◌, Some, Ok, MatchResult};
 ghost use Rattle.archive.specs.Faults.{archive_report, state_report};
-ghost use Rattle.console.specs.Answers.{denial_answer, fault_answer};
+ghost use Rattle.console.specs.Answers.{denial_answer, fault_answer, split_answer};
 ghost use Rattle.console.specs.Replies.{common_text, reply_text, value_text};
-ghost use Rattle.console.specs.declared.answer.Answer.TheVariants.{Refused};
+ghost use Rattle.console.specs.declared.answer.Answer.TheVariants.{Done, Refused, Scalar as Shown};
 ghost use Rattle.console.specs.declared.answer.RingValue.TheVariants.{Mod17 as Residue, Quad as Words};
 
 use crate::problem::Problem;
@@ -103,6 +103,30 @@ pub enum Answer {
     Count(u64),
 }
 
+impl From<()> for Answer {
+    ghost from_gives = { λ _ a. a ≡ Done };
+
+    fn from(_: ()) -> Answer {
+        Answer::Done
+    }
+}
+
+impl From<Scalar> for Answer {
+    ghost from_gives = { λ x a. a ≡ Shown x };
+
+    fn from(scalar: Scalar) -> Answer {
+        Answer::Scalar(scalar)
+    }
+}
+
+impl From<Option<Scalar>> for Answer {
+    ghost from_gives = { λ v a. a ≡ split_answer (Ok v) };
+
+    fn from(value: Option<Scalar>) -> Answer {
+        value.map_or(Answer::Aside, Answer::from)
+    }
+}
+
 impl From<Refusal> for Answer {
     ghost from_gives = { λ e a. a ≡ Refused e };
 
@@ -134,6 +158,18 @@ impl From<Denial<ArchiveFault>> for Answer {
         match denial {
             Denial::Fault(fault) => Answer::from(fault),
             Denial::Refused(refusal) => Answer::from(refusal),
+        }
+    }
+}
+
+// The answer to a call, from that to what it grants and to what denies it.
+impl<T: Into<Answer>, E: Into<Answer>> From<Result<T, E>> for Answer {
+    ghost from_gives = { λ r a. MatchResult r (λ x. T.converts x a) (λ e. E.converts e a) };
+
+    fn from(res: Result<T, E>) -> Answer {
+        match res {
+            Ok(granted) => granted.into(),
+            Err(denied) => denied.into(),
         }
     }
 }

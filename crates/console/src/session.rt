@@ -118,29 +118,23 @@ impl Session {
     fn split(&self, calls: &[Call], place: u64) -> Answer
         ensures { ShowsSplit (map call_of calls.now) place self.now.s self.now.t result }
     {
-        match split(&self.s, &self.t, calls, place) {
-            Ok(Some(scalar)) => Answer::Scalar(scalar),
-            Ok(None) => Answer::Aside,
-            Err(refusal) => Answer::from(refusal),
-        }
+        Answer::from(split(&self.s, &self.t, calls, place))
     }
 
     fn overlap(&self) -> Answer
         ensures { ShowsOverlap self.now.t self.now.s result }
     {
-        overlap(&self.t, &self.s).map_or_else(Answer::from, Answer::Scalar)
+        Answer::from(overlap(&self.t, &self.s))
     }
 
     fn intersect(&mut self) -> Answer
         ensures kept { Denies result → self.new ≡ self.old }
         ensures shared { Leaves self.old result self.new }
     {
-        let t = self.t;
-        let s = self.s;
-        match intersect(&mut self.last, &t, &s) {
+        match intersect(&mut self.last, &self.t, &self.s) {
             Ok(()) => Answer::Common(Common {
                 both: self.last,
-                qubits: t.qubits(),
+                qubits: self.t.qubits(),
             }),
             Err(refusal) => Answer::from(refusal),
         }
@@ -151,49 +145,41 @@ fn open(state: &mut StabilizerState, qubits: u64) -> Answer
     ensures kept { Denies result → state.new ≡ state.old }
     ensures opened { Opens qubits state.old result state.new }
 {
-    state
-        .open(qubits)
-        .map_or_else(Answer::from, |()| Answer::Done)
+    Answer::from(state.open(qubits))
 }
 
 fn gate(state: &mut StabilizerState, kind: u64, first: u64, second: u64) -> Answer
     ensures kept { Denies result → state.new ≡ state.old }
     ensures applied { Gates kind first second state.old result state.new }
 {
-    state
-        .gate(kind, first, second)
-        .map_or_else(Answer::from, |()| Answer::Done)
+    Answer::from(state.gate(kind, first, second))
 }
 
 fn project(state: &mut StabilizerState, text: &[u8]) -> Answer
     ensures kept { Denies result → state.new ≡ state.old }
     ensures projected { Projects text.now state.old result state.new }
 {
-    state
-        .project(text)
-        .map_or_else(Answer::from, |()| Answer::Done)
+    Answer::from(state.project(text))
 }
 
 fn read(state: &mut StabilizerState, bytes: &[u8]) -> Answer
     ensures kept { Denies result → state.new ≡ state.old }
     ensures read { Reads bytes.now state.old result state.new }
 {
-    codec::read(state, bytes).map_or_else(Answer::from, |()| Answer::Done)
+    Answer::from(codec::read(state, bytes))
 }
 
 fn take(state: &mut StabilizerState, archive: &[u8], index: u64) -> Answer
     ensures kept { Denies result → state.new ≡ state.old }
     ensures taken { Takes archive.now index state.old result state.new }
 {
-    container::take(state, archive, index).map_or_else(Answer::from, |()| Answer::Done)
+    Answer::from(container::take(state, archive, index))
 }
 
 fn amplitude(state: &StabilizerState, string: u64) -> Answer
     ensures { ShowsAmplitude string state.now result }
 {
-    state
-        .amplitude(string)
-        .map_or_else(Answer::from, Answer::Scalar)
+    Answer::from(state.amplitude(string))
 }
 
 // Puts the bytes of a state into the buffer, and nothing else.

@@ -5,5 +5,5 @@ use Rattle.console.proofs.session.project.Goals as goal
 
 pub returns-clause-kept : goal.returns-clause-kept
 returns-clause-kept c = λ d.
-    let e : c.map_or_else.result ≡ call_answer c.project.result = search rules in
+    let e : c.from.result ≡ call_answer c.project.result = search rules in
     projection-kept _ _ _ _ _ (call-denied _ (subst Denies e d)) c.project.ensures
