@@ -3,17 +3,21 @@ ghost use Rattle.std.specs.Iterator.{at_most};
 ghost use Rattle.quadratic.specs.Numbering.{place, spread};
 ghost use Rattle.quadratic.specs.Bits.{bit as digit, dot as parity, Lowest, RowsXor};
 
+// Strings and masks are plain words: a type of 48 bits would need a method of its own for each word operation.
+
 // Bit i of x.
 pub(crate) fn bit(x: u64, i: usize) -> u64
     requires { i < 64 }
-    ensures { (result ≡ digit x i) × (result < 2) }
+    ensures value { result ≡ digit x i }
+    ensures small { result < 2 }
 {
     (x >> i) & 1
 }
 
 // The parity of the bits that x and y share.
 pub(crate) fn dot(x: u64, y: u64) -> u64
-    ensures { (result ≡ parity x y) × (result < 2) }
+    ensures value { result ≡ parity x y }
+    ensures small { result < 2 }
 {
     ((x & y).count_ones() & 1) as u64
 }

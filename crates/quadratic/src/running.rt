@@ -23,7 +23,8 @@ pub struct RunningSum<R> {
 impl<R: Ring> RunningSum<R> {
     // No string added yet.
     pub fn new() -> RunningSum<R>
-        ensures { (R.value result.value ≡ R.ops.nil) × (result.count ≡ 0) }
+        ensures value { R.value result.value ≡ R.ops.nil }
+        ensures count { result.count ≡ 0 }
     {
         RunningSum {
             value: R::zero(),

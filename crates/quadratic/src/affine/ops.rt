@@ -10,7 +10,9 @@ use crate::bits::{bit, dot, highest, lowest, set_bits, turned, xor_rows};
 impl AffineSpace {
     // The space of the zero string alone.
     pub(crate) fn origin() -> AffineSpace
-        ensures { (result.pivots ≡ 0) × ((((p : ℕ) → row result.rows p ≡ 0)) × (result.shift ≡ 0)) }
+        ensures pivots { result.pivots ≡ 0 }
+        ensures rows { (p : ℕ) → row result.rows p ≡ 0 }
+        ensures shift { result.shift ≡ 0 }
     {
         AffineSpace {
             pivots: 0,

@@ -9,7 +9,8 @@ use crate::bits::{bit, dot, set_bits, turned, xor_rows, xor_tables};
 impl QuadraticForm {
     // The form's value at the point c.
     pub(crate) fn value(&self, c: u64) -> u8
-        ensures { (result ≡ value_at self.now c) × (result < 8) }
+        ensures value { result ≡ value_at self.now c }
+        ensures small { result < 8 }
     {
         let mut sum = self.phase;
         let mut seen = 0;
@@ -76,7 +77,8 @@ impl QuadraticForm {
     // The form with one value.
     pub(crate) fn constant(phase: u8) -> QuadraticForm
         requires { phase < 8 }
-        ensures { (((c : ℕ) → value_at result c ≡ phase)) × (result.phase ≡ phase) }
+        ensures values { (c : ℕ) → value_at result c ≡ phase }
+        ensures phase { result.phase ≡ phase }
     {
         QuadraticForm {
             phase,
@@ -168,7 +170,9 @@ impl QuadraticForm {
 
     // Puts the parity of the mask in the place of variable a.
     pub(crate) fn substitute(&mut self, a: usize, mask: u64)
-        requires { (a < 48) × ((mask < 2 ^ 48) × (digit mask a ≡ 0)) }
+        requires place { a < 48 }
+        requires low { mask < 2 ^ 48 }
+        requires free { digit mask a ≡ 0 }
         ensures values { (c : ℕ) → digit c a ≡ parity mask c → value_at self.new c ≡ value_at self.old c }
         ensures free { (c : ℕ) → value_at self.new (bit_xor c (2 ^ a)) ≡ value_at self.new c }
     {

@@ -10,6 +10,7 @@ use super::ops::settle;
 use crate::affine::Outcome;
 use crate::bits::{bit, dot, highest, turned};
 
+// A move answers false where it can't be made, as a set's `insert` does, and then leaves the space as it was.
 impl PhasedSpace {
     // Keeps the strings whose parity with w is b.
     pub fn restrict(&mut self, w: u64, b: bool) -> Outcome

@@ -170,7 +170,8 @@ impl PhasedSpace {
 
     // The form's value at the string numbered by c: row a is in it when bit a - 1 of c is 1.
     pub fn numbered_value(&self, c: u64) -> u64
-        ensures { (result ≡ value_at self.now.form (spread 48 self.now.space.pivots c)) × (result < 8) }
+        ensures value { result ≡ value_at self.now.form (spread 48 self.now.space.pivots c) }
+        ensures small { result < 8 }
     {
         self.form.value(deposit(self.space.pivots(), c)) as u64
     }

@@ -5,4 +5,4 @@ use Rattle.quadratic.proofs.bits.bit.Goals as goal
 
 pub returns : goal.returns
 unfolding bit
-returns c = (and_mask (c.args.x / 2 ^ c.args.i) 1, mask_lt (c.args.x / 2 ^ c.args.i) 1)
+returns c = let n = c.args.x / 2 ^ c.args.i in record { value = and_mask n 1; small = mask_lt n 1 }

@@ -32,7 +32,7 @@ loop-p-preserved-then-bit-eq1 c =
     let a = c.loop-p.left in
     let sum = c.loop-p.sum in
     let e : p ≡ suc (p - 1) = omega arith in
-    let on : bit mask (p - 1) ≡ 1 = sym c.bit.ensures.0 ∙ c.if-bit-eq1.true in
+    let on : bit mask (p - 1) ≡ 1 = sym c.bit.ensures.value ∙ c.if-bit-eq1.true in
     let put = shifted (a % 2) (p - 1) (omega arith) (omega arith) in
     record {
       parts = c.loop-p.invariant.parts ∙ ap (λ n. sum + spread n mask a) e ∙ ap (◌+◌ sum) (spread-on (p - 1) mask a on)
@@ -48,7 +48,7 @@ loop-p-preserved c =
     let sum = c.loop-p.sum in
     let e : p ≡ suc (p - 1) = omega arith in
     let half = ap (λ n. 2 ^ n) e ∙ pow-suc 2 (p - 1) in
-    let off = λ (on : bit mask (p - 1) ≡ 1). c.if-bit-eq1.false (c.bit.ensures.0 ∙ on) in
+    let off = λ (on : bit mask (p - 1) ≡ 1). c.if-bit-eq1.false (c.bit.ensures.value ∙ on) in
     record {
       parts = c.loop-p.invariant.parts ∙ ap (λ n. sum + spread n mask c.loop-p.left) e
           ∙ ap (◌+◌ sum) (spread-off (p - 1) mask c.loop-p.left off);

@@ -5,4 +5,4 @@ use Rattle.quadratic.proofs.bits.dot.Goals as goal
 
 pub returns : goal.returns
 unfolding dot
-returns c = let n = ones (bit_and c.args.x c.args.y) in (and_mask n 1, mask_lt n 1)
+returns c = let n = ones (bit_and c.args.x c.args.y) in record { value = and_mask n 1; small = mask_lt n 1 }

@@ -9,8 +9,8 @@ loop-p-preserved c =
     let f = λ (k : ℕ). dot c.args.w (get_or c.args.table.now k 0) in
     let p = c.loop-p.p in
     let d = c.dot.ensures in
-    subst (λ y. Filled f (p + 1) (bit_xor c.loop-p.odd y)) (sym (placed c.dot.result p d.1 c.loop-p-test.true))
-    (fill-more f p c.loop-p.odd c.dot.result d.1 d.0 c.loop-p.invariant)
+    subst (λ y. Filled f (p + 1) (bit_xor c.loop-p.odd y)) (sym (placed c.dot.result p d.small c.loop-p-test.true))
+    (fill-more f p c.loop-p.odd c.dot.result d.small d.value c.loop-p.invariant)
 
 pub returns : goal.returns
 returns c =

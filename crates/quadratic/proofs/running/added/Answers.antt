@@ -9,9 +9,9 @@ loop-init g c =
     let o = g.R.Ring.ops in
     let none = c.new-sum.ensures in
     record {
-      calls_made = none.1;
+      calls_made = none.count;
       within = omega (arith, none);
-      sum = none.0 ∙ ap (sum_to o (term_in o c.args.x.now)) (sym none.1);
+      sum = none.value ∙ ap (sum_to o (term_in o c.args.x.now)) (sym none.count);
     }
 
 pub loop-preserved : goal.loop-preserved

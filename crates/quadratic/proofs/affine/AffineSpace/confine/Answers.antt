@@ -24,7 +24,7 @@ returns-in-Empty c =
     let b = c.bit.ensures in
     agree-empty s s' t i (reach-here s s' t left i left' r low) (reach-off s s' t left i left' r low) c.turned-w.result
     (check-is t i (row c.columns-columns.result i) (c.columns-columns.ensures.bits i) _ c.turned-w.ensures)
-    (flag (eqb c.bit.result 1)) (tested c.bit.result _ b.0 b.1) c.in-Empty.ensures.strings.1
+    (flag (eqb c.bit.result 1)) (tested c.bit.result _ b.value b.small) c.in-Empty.ensures.strings.1
 
 pub loop-i-preserved : goal.loop-i-preserved
 loop-i-preserved c =
@@ -40,7 +40,7 @@ loop-i-preserved c =
     reach-next s s' t left i left' r low c.restrict.new.self
     (agree-cut s s' t i (reach-here s s' t left i left' r low) (reach-off s s' t left i left' r low) c.turned-w.result
     (check-is t i (row c.columns-columns.result i) (c.columns-columns.ensures.bits i) _ c.turned-w.ensures)
-    c.restrict.result c.restrict.new.self (flag (eqb c.bit.result 1)) (tested c.bit.result _ b.0 b.1) c.in_default.not-Empty
+    c.restrict.result c.restrict.new.self (flag (eqb c.bit.result 1)) (tested c.bit.result _ b.value b.small) c.in_default.not-Empty
     c.restrict.ensures.strings)
 
 pub returns : goal.returns

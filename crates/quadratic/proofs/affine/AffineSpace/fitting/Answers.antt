@@ -39,7 +39,7 @@ returns-then-bit-eq1 c = λ q f.
     let e = one-top c.args.added c.highest-p.result q h.on h.most f.on f.most in
     elim c.then-bit-eq1.branch [
       | then-bit-eq1-via-then-bit-eq1 w ↦
-          not-both (bit s.shift q) f.clear (ap (bit s.shift) e ∙ sym c.bit.ensures.0 ∙ w.if-bit-eq1.true)
+          not-both (bit s.shift q) f.clear (ap (bit s.shift) e ∙ sym c.bit.ensures.value ∙ w.if-bit-eq1.true)
       | then-bit-eq1-via-else-bit-eq1+then-column-ne0 w ↦
           w.if-column-ne0.true
           (by_bits w.column.result 0
@@ -60,5 +60,5 @@ returns c =
       below = λ q o. elim
           (dec_lt p q) [ yes g ↦ g | no g ↦ absurd (not-both (bit s.pivots q) (low-none (suc p) s.pivots q low (omega arith)) o) ];
       free = λ q. sym (c.column.ensures.bits q) ∙ ap (λ x. bit x q) c.if-column-ne0.false ∙ bit-zero q;
-      clear = omega (arith, c.bit.ensures.0, c.bit.ensures.1, c.if-bit-eq1.false);
+      clear = omega (arith, c.bit.ensures.value, c.bit.ensures.small, c.if-bit-eq1.false);
     }

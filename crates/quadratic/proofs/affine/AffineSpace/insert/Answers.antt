@@ -19,7 +19,7 @@ invariant_of-self c =
     let f = new-facts s.pivots (row s.rows) s.shift (facts s) g p c.requires.on c.requires.most c.requires.place
     c.requires.off c.turned-l.result is (row c.xor_rows.new.table) c.xor_rows.ensures
     c.turned-self.result c.turned-self.ensures in
-    let e = ap (λ b. bit_xor s.shift (b * g)) c.bit.ensures.0 in
+    let e = ap (λ b. bit_xor s.shift (b * g)) c.bit.ensures.value in
     record {
       within = f.within;
       low = f.low;
@@ -35,7 +35,7 @@ returns c =
     let g = c.args.f in
     let p = c.args.p in
     let is = rows-with (row s.rows) p c.column.result c.turned-l.result c.column.ensures.bits c.turned-l.ensures in
-    let shifted = ap (λ b. bit_xor s.shift (b * g)) c.bit.ensures.0 in
+    let shifted = ap (λ b. bit_xor s.shift (b * g)) c.bit.ensures.value in
     record {
       pivots = c.turned-self.ensures;
       doubled = insert-doubled s _ g p c.turned-l.result c.requires.on c.requires.most c.requires.place c.requires.off is

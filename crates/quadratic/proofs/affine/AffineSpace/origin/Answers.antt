@@ -15,4 +15,4 @@ invariant_of-result c = record {
 }
 
 pub returns : goal.returns
-returns c = (refl, (getD-zeros 48, refl))
+returns c = record { pivots = refl; rows = getD-zeros 48; shift = refl }

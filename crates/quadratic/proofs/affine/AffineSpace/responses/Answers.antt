@@ -19,9 +19,9 @@ loop-p-preserved c =
     let p = c.in-Some.p in
     let low = c.in-Some.ensures.steps in
     let d = c.dot.ensures in
-    let put = placed c.dot.result p d.1 low.place ∙ ap (λ b. b * 2 ^ p) d.0 in
+    let put = placed c.dot.result p d.small low.place ∙ ap (λ b. b * 2 ^ p) d.value in
     subst (λ y. Gathered f c.next.new.self.left (bit_xor c.loop-p.l y)) (sym put)
-    (gather-more f c.loop-p.p-iterator.left c.loop-p.l p c.next.new.self.left low (subst (λ b. b < 2) d.0 d.1) c.loop-p.invariant)
+    (gather-more f c.loop-p.p-iterator.left c.loop-p.l p c.next.new.self.left low (subst (λ b. b < 2) d.value d.small) c.loop-p.invariant)
 
 pub returns : goal.returns
 returns c = record {

@@ -13,7 +13,7 @@ returns-then-beta-eq0 c = record {
   strings = (
     refl,
     λ y m. flat c.args.self.now c.args.w c.responses-l.result c.responses-l.ensures.bits c.if-l-eq0.true y m
-        ∙ sym c.dot.ensures.0 ∙ move c.dot.result c.from.result 0 c.if-beta-eq0.true
+        ∙ sym c.dot.ensures.value ∙ move c.dot.result c.from.result 0 c.if-beta-eq0.true
         ∙ xor_zero_l c.from.result ∙ c.from.ensures,
   );
   pivots = refl;
@@ -25,7 +25,7 @@ returns-else-beta-eq0 c = record {
     refl,
     λ y m d.
         let e = flat c.args.self.now c.args.w c.responses-l.result c.responses-l.ensures.bits c.if-l-eq0.true y m in
-        c.if-beta-eq0.false (ap₂ bit_xor (c.dot.ensures.0 ∙ sym e ∙ d) c.from.ensures ∙ xor_self (flag c.args.b)),
+        c.if-beta-eq0.false (ap₂ bit_xor (c.dot.ensures.value ∙ sym e ∙ d) c.from.ensures ∙ xor_self (flag c.args.b)),
   );
   pivots = refl;
 }
@@ -40,7 +40,7 @@ cut-requires c =
       part = resp-inside s.pivots (row s.rows) s.shift (facts s) c.args.w l c.responses-l.ensures.bits;
       on = c.lowest.ensures.on;
       least = c.lowest.ensures.least;
-      small = xor_lt 1 c.dot.result c.from.result c.dot.ensures.1 (rw c.from.ensures (flag-lt c.args.b));
+      small = xor_lt 1 c.dot.result c.from.result c.dot.ensures.small (rw c.from.ensures (flag-lt c.args.b));
     }
 
 pub returns : goal.returns
@@ -51,7 +51,7 @@ returns c =
     let bits = c.responses-l.ensures.bits in
     record {
       strings = by-parity s c.cut.new.self c.args.w l (flag c.args.b) _ bits
-          (ap₂ bit_xor c.dot.ensures.0 c.from.ensures) c.cut.ensures.half;
+          (ap₂ bit_xor c.dot.ensures.value c.from.ensures) c.cut.ensures.half;
       pivots = (
         p,
         part-on l s.pivots p (resp-inside s.pivots (row s.rows) s.shift (facts s) c.args.w l bits) c.lowest.ensures.on,

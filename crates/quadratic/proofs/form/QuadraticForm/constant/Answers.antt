@@ -27,8 +27,8 @@ invariant_of-result c =
 
 pub returns : goal.returns
 unfolding value_at
-returns c = (
-  λ p. ap (λ v. v % 8) (quad-none c.args.phase (bit p) (coef 0 0) (link (replicate 48 0)) 48 no-coef no-link)
-      ∙ mod-eq_of_lt c.requires,
-  refl,
-)
+returns c = record {
+  values = λ p. ap (λ v. v % 8) (quad-none c.args.phase (bit p) (coef 0 0) (link (replicate 48 0)) 48 no-coef no-link)
+      ∙ mod-eq_of_lt c.requires;
+  phase = refl;
+}

@@ -13,7 +13,7 @@ add_product-requires c =
     let f = c.args.self.now in
     let a = c.args.a in
     let e = one_shl a 64 (omega arith) in
-    (c.requires.1.0, mask_below (get_or f.coupling a 0) ((1 * 2 ^ a) % 2 ^ 64) a e 48 (f.inside a))
+    (c.requires.low, mask_below (get_or f.coupling a 0) ((1 * 2 ^ a) % 2 ^ 64) a e 48 (f.inside a))
 
 pub returns : goal.returns
 returns c =
@@ -28,12 +28,12 @@ returns c =
     let v₁ = value_at c.clear.new.self in
     let v₂ = value_at c.add_parity.new.self in
     let v₃ = value_at c.add_product.new.self in
-    let up = λ (p : ℕ). slope-at f a p c.requires.0 ∙ ap (λ d. (value_at f p + (d + 4 * dot row p)) % 8) (sym c.linear-times.ensures.value) in
+    let up = λ (p : ℕ). slope-at f a p c.requires.place ∙ ap (λ d. (value_at f p + (d + 4 * dot row p)) % 8) (sym c.linear-times.ensures.value) in
     record {
       values = subst-values a c.args.mask rest row t v v₁ v₂ v₃ (value-lt f) up c.clear.ensures.off
           c.clear.ensures.free c.add_parity.ensures c.add_product.ensures
-          c.requires.1.1 (gone row h a e) (λ p z. dot-keep row h a p e z);
+          c.requires.free (gone row h a e) (λ p z. dot-keep row h a p e z);
       free = subst-free a c.args.mask rest row t v v₁ v₂ v₃ (value-lt f) up c.clear.ensures.off
           c.clear.ensures.free c.add_parity.ensures c.add_product.ensures
-          c.requires.1.1 (gone row h a e) (λ p z. dot-keep row h a p e z);
+          c.requires.free (gone row h a e) (λ p z. dot-keep row h a p e z);
     }

@@ -33,4 +33,4 @@ returns c =
     let i = c.loop-a.invariant in
     let all = sym (xor_zero_r c.loop-a.seen) ∙ ap (bit_xor c.loop-a.seen) (sym c.in-None.ensures.steps) ∙ i.seen in
     let e = i.value ∙ ap (value_at f) all ∙ value-low f c.args.c in
-    (e, rw e (value-lt f c.args.c))
+    record { value = e; small = rw e (value-lt f c.args.c) }

@@ -16,7 +16,7 @@ pub add_affine-requires : goal.add_affine-requires
 add_affine-requires c = record {
   low = c.responses-l.ensures.below;
   even = (omega arith, omega arith);
-  small = xor_lt 1 c.args.base c.dot.result c.requires c.dot.ensures.1;
+  small = xor_lt 1 c.args.base c.dot.result c.requires c.dot.ensures.small;
 }
 
 pub invariant_of-self : goal.invariant_of-self
@@ -38,7 +38,7 @@ returns c =
     let l = c.responses-l.result in
     let q = c.args.quarters in
     let base = c.args.base in
-    let a : c.dot.result ≡ dot w s.space.shift = c.dot.ensures.0 ∙ ap (dot w) c.shift.ensures in
+    let a : c.dot.result ≡ dot w s.space.shift = c.dot.ensures.value ∙ ap (dot w) c.shift.ensures in
     turned_by s _ (λ y. 2 * q * bit_xor base (dot w y)) refl (λ y m. c.add_affine.ensures y
     ∙ ap (λ x. (v y + 2 * (q % 4) * x) % 8) (xor_assoc base c.dot.result (dot l y)
     ∙ ap (bit_xor base) (by_rows s.space w l c.responses-l.ensures.bits c.dot.result a y m))

@@ -43,7 +43,7 @@ returns c =
     ∙ red-clean P (row s.space.rows) s.space.shift (facts s.space) c.args.d in
     extended s c.insert.new.self c.add_across.new.self c.args.d c.args.quarters c.args.z
     c.gain-turns.result.0 c.gain-turns.result.1 c.check-w.result c.bit-base.result g p
-    c.check-w.ensures (c.bit-base.ensures.0 ∙ ap (λ x. bit x p) c.shift.ensures) c.rest-rest.ensures
+    c.check-w.ensures (c.bit-base.ensures.value ∙ ap (λ x. bit x p) c.shift.ensures) c.rest-rest.ensures
     c.highest-p.ensures.on (off-bit P g p (and_comm P g ∙ off) c.highest-p.ensures.on)
     c.insert.ensures.pivots c.insert.ensures.strings c.insert.ensures.form c.gain-turns.ensures.law
     c.add_across.ensures.phases c.add_across.ensures.space

@@ -16,5 +16,5 @@ returns c =
       law = gained (value_at s.form) P d (bit_and d c.pivots.result) c.polar.result (value-lt s.form)
           (λ x. value-even s.form x ∙ sym (value-even s.form 0)) s.idle (ap (bit_and d) e) c.polar.ensures
           c.args.z c.value.result c.value-2.result c.dot.result c.pivots-2.result
-          c.value.ensures.0 c.value-2.ensures.0 c.dot.ensures.0 c.pivots-2.ensures;
+          c.value.ensures.value c.value-2.ensures.value c.dot.ensures.value c.pivots-2.ensures;
     }

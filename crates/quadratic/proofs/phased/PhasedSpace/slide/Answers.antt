@@ -34,7 +34,7 @@ returns c =
     let i = c.highest-i.result in
     let de = c.turned-d.ensures in
     let b = c.bit-b.ensures in
-    let flagged = tested c.bit-b.result (bit s.space.shift i) (b.0 ∙ ap (λ x. bit x i) c.shift.ensures) b.1 in
+    let flagged = tested c.bit-b.result (bit s.space.shift i) (b.value ∙ ap (λ x. bit x i) c.shift.ensures) b.small in
     let more = grown c.extend.result s c.extend.new.self d 0 0 c.extend.ensures (rw de (pow-lt c.requires.place))
     (subst (Outside s) (sym de) c.requires.outside) in
     slid s c.extend.new.self c.restrict.new.self c.args.j c.args.l i c.turned-w.result c.check.result d

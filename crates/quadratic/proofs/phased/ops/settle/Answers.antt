@@ -36,7 +36,7 @@ fix-requires c =
       place = low.place;
       low = c.columns-columns.ensures.below i;
       free = column-off s i (row c.columns-columns.result i) (c.columns-columns.ensures.bits i) off;
-      small = c.bit.ensures.1;
+      small = c.bit.ensures.small;
     }
 
 pub loop-i-preserved : goal.loop-i-preserved
@@ -50,7 +50,7 @@ loop-i-preserved c =
     let inv = c.loop-i.invariant in
     let v = value_at c.loop-i.form in
     let v' = value_at c.fix.new.self in
-    let β = c.bit.ensures.0 in
+    let β = c.bit.ensures.value in
     record {
       apart = ap (λ x. bit_and x s.pivots) low.rest ∙ still-apart s.pivots left i inv.apart low.on;
       kept = λ y m.
@@ -59,7 +59,7 @@ loop-i-preserved c =
           ∙ ap (λ x. v (bit_xor y (x * 2 ^ i))) (own-bit s i col bits y m) ∙ ap v (ap (bit_xor y) (zero-mul (2 ^ i)) ∙ xor_zero_r y)
           ∙ inv.kept y m;
       seen = λ h. subst (λ x. Seen v' (bit_xor s.pivots x)) (sym low.rest)
-          (unseen v v' s.pivots left i col c.bit.result c.fix.ensures c.bit.ensures.1 inv.apart low.on
+          (unseen v v' s.pivots left i col c.bit.result c.fix.ensures c.bit.ensures.small inv.apart low.on
           (column-inside s i col bits) (inv.seen h));
     }
 
