@@ -70,7 +70,7 @@ impl Tally {
         let quads = total::<Cyclotomic64>(&both);
         self.count = self.count.wrapping_add(residues.count());
         self.count = self.count.wrapping_add(quads.count());
-        self.note(u64::from(residues.value().residue() % 16));
+        self.note(u64::from(u8::from(residues.value()) % 16));
         self.note(quads.value().word(0));
     }
 

@@ -15,13 +15,6 @@ pub struct Mod17 {
 }
 
 impl Mod17 {
-    // The number from 0 to 16 that stands for it.
-    pub fn residue(self) -> u8
-        ensures { result ≡ self.residue }
-    {
-        self.residue
-    }
-
     // What a number is modulo 17.
     fn reduced(number: u16) -> Mod17
         ensures { result.residue ≡ number % 17 }
@@ -67,6 +60,15 @@ impl Ring for Mod17 {
 
     fn equal(self, other: Mod17) -> bool {
         self == other
+    }
+}
+
+// The number from 0 to 16 that stands for it.
+impl From<Mod17> for u8 {
+    ghost from_gives = { λ x r. r ≡ x.residue };
+
+    fn from(value: Mod17) -> u8 {
+        value.residue
     }
 }
 
