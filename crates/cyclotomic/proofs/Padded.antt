@@ -6,6 +6,9 @@ use Rattle.std.specs.Fmt.{digit_glyph, digits, digits_onto, padded_integral, for
 use Rattle.std.proofs.lemmas.Bool.Decides.{nat_tests}
 use Rattle.cyclotomic.specs.Columns.{glyph_of, glyphs, hex_at}
 
+-- A number n with at most k digits is written with as many zeros in front as it has digits less than k. That is the list of its last k
+-- digits, which are those that `hex_at` has at the places 0 to k - 1.
+
 -- the last k digits of n
 tail : ℕ → ℕ → List ℕ
 tail zero n = []
@@ -23,7 +26,9 @@ replicate-more (suc k) x xs = ap (λ (l : List ℕ). x ∷ l) (replicate-more k 
 tail-zero : (k : ℕ) → tail k 0 ≡ replicate k 48
 unfolding tail
 tail-zero zero = refl
-tail-zero (suc k) = ap (λ (l : List ℕ). l ++ 48 ∷ []) (tail-zero k) ∙ (replicate-more k 48 [] ∙ ap (λ (l : List ℕ). 48 ∷ l) (append-nil (replicate k 48)))
+tail-zero (suc k) =
+    ap (λ (l : List ℕ). l ++ 48 ∷ []) (tail-zero k)
+    ∙ (replicate-more k 48 [] ∙ ap (λ (l : List ℕ). 48 ∷ l) (append-nil (replicate k 48)))
 
 positive : (k m : ℕ) → Few k m → (m ≡ 0 → ⊥) → 0 < k
 unfolding Few
@@ -81,7 +86,8 @@ shifted k n i h =
     let second : nat_lt i (suc k) ≡ true = grind (arith, nat_tests) in
     let exponent : 4 + 4 * (k - 1 - i) ≡ 4 * (suc k - 1 - i) = omega arith in
     ap (λ b. cond b (n / 16 / 2 ^ (4 * (k - 1 - i)) % 16) 0) first
-    ∙ (ap (λ (m : ℕ). m % 16) (div-div-eq-div-mul n 16 (2 ^ (4 * (k - 1 - i))) ∙ ap (λ (m : ℕ). n / m) (sym (pow-add 2 4 (4 * (k - 1 - i))) ∙ ap (λ (m : ℕ). 2 ^ m) exponent))
+    ∙ (ap (λ (m : ℕ). m % 16) (div-div-eq-div-mul n 16 (2 ^ (4 * (k - 1 - i)))
+    ∙ ap (λ (m : ℕ). n / m) (sym (pow-add 2 4 (4 * (k - 1 - i))) ∙ ap (λ (m : ℕ). 2 ^ m) exponent))
     ∙ ap (λ b. cond b (n / 2 ^ (4 * (suc k - 1 - i)) % 16) 0) (sym second))
 
 lowest : (k n : ℕ) → n % 16 ≡ hex_at (suc k) n k
@@ -125,6 +131,7 @@ pub two : (n : ℕ) → n < 2 ^ 8 → padded_integral (format_spec 32 0 4 2 (2 ^
 unfolding Few
 two n h = hex 2 n (lit≤ tt) (lit< tt) (omega arith)
 
-pub sixteen : (n : ℕ) → n < 2 ^ 64 → padded_integral (format_spec 32 0 4 16 (2 ^ 64 - 1)) false [] (digits 16 false n) ≡ glyphs (hex_at 16 n) 0 16
+pub sixteen : (n : ℕ) → n < 2 ^ 64
+    → padded_integral (format_spec 32 0 4 16 (2 ^ 64 - 1)) false [] (digits 16 false n) ≡ glyphs (hex_at 16 n) 0 16
 unfolding Few
 sixteen n h = hex 16 n (lit≤ tt) (lit< tt) (omega arith)

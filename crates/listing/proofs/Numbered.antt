@@ -79,7 +79,8 @@ module _ {A : Type 0}
       record {
         lines = l ∷ [];
         pairs = subst (λ (x : ℕ × ℕ). InOrder (λ p. p ≡ q) (x ∷ [])) (sym e) (InOrder-one q);
-        told = All-cons (λ x. HoldsOf (LineTells tells x) states (line_numbers x)) l [] (subst (HoldsOf (LineTells tells l) states) (sym e) h) (All-nil _);
+        told = All-cons (λ x. HoldsOf (LineTells tells x) states (line_numbers x)) l []
+            (subst (HoldsOf (LineTells tells l) states) (sym e) h) (All-nil _);
         written = sym (append-nil (ended (line_text shown l)));
       }
 
@@ -104,8 +105,8 @@ module _ {A : Type 0}
 
   -- a line more is written
   pub Writes-line : (P R : ℕ × ℕ → Type 0) (u v w : Option (List ℕ)) (l : Line A) (q : ℕ × ℕ) → Joined P (λ p. p ≡ q) R
-      → Writes (Lines shown tells states P) u v → line_numbers l ≡ q → HoldsOf (LineTells tells l) states q → Appends v w (ended (line_text shown l))
-      → Writes (Lines shown tells states R) u w
+      → Writes (Lines shown tells states P) u v → line_numbers l ≡ q → HoldsOf (LineTells tells l) states q
+      → Appends v w (ended (line_text shown l)) → Writes (Lines shown tells states R) u w
   Writes-line P R u v w l q j p e h put =
       Writes-append P (λ x. x ≡ q) R u v w j p (ended (line_text shown l), Lines-one l q e h, put)
 

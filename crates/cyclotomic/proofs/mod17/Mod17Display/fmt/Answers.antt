@@ -1,7 +1,12 @@
-use Rattle.std.proofs.Common.{arith}
+use Rattle.std.proofs.Common.{◌≡◌, Some, ap, arith}
+use Rattle.std.specs.Fmt.{styled_digits_output}
+use Rattle.cyclotomic.specs.Texts.{residue_text}
 use Rattle.cyclotomic.proofs.Padded.{two}
 use Rattle.cyclotomic.proofs.mod17.Mod17Display.fmt.Goals as goal
 
 pub returns-clause-writes : goal.returns-clause-writes
 returns-clause-writes g c =
-    rw (c.laid_out.ensures, c.in_radix.ensures, two c.args.self.now.residue (omega arith)) at c.write.ensures.writes
+    let residue = c.args.self.now.residue in
+    let shown : styled_digits_output c.in_radix.result c.laid_out.result ≡ Some (residue_text residue) =
+    rw (c.laid_out.ensures, c.in_radix.ensures) (ap Some (two residue (omega arith))) in
+    rw shown at c.write.ensures.writes

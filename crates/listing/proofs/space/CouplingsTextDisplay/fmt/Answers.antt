@@ -31,7 +31,8 @@ loop-a-preserved g c = λ plain.
     let so_far = c.loop-a.invariant plain in
     has_written_of_eq _ _ _ _ _ (sym (more s a (omega arith)))
     (has_written_append _ _ _ _ _ _ so_far
-    ((rw c.dimension-dimension.ensures at c.in_ok-write_items.ensures) (λ b. coupling_text s (a + 1) (a + 1 + b)) (λ b x low high p. search rules) so_far.plain refl))
+    ((rw c.dimension-dimension.ensures at c.in_ok-write_items.ensures)
+    (λ b. coupling_text s (a + 1) (a + 1 + b)) (λ b x low high p. search rules) so_far.plain refl))
 
 pub returns-clause-writes : goal.returns-clause-writes
 returns-clause-writes g c = λ plain ok.
