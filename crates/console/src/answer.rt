@@ -77,7 +77,7 @@ impl fmt::Display for Common {
     }
 }
 
-// What a line is answered. Bytes of an answer are in the buffer of the operands.
+// What a line is answered. Bytes of an answer are in the buffer of the operands, of which `run` says what it holds after a refusal too.
 #[derive(Clone, Copy)]
 pub enum Answer {
     Help,
@@ -93,6 +93,7 @@ pub enum Answer {
     Common(Common),
     Mark(bool),
     Aside,
+    // a0 to a3, as the library answers them
     Coordinates((i64, i64, i64, i64)),
     Total {
         number: u64,

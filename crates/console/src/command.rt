@@ -108,6 +108,7 @@ pub enum Command {
 }
 
 // The bytes of a line: what is read, in the first or in the first two, and the buffer that an answer is written into; and its calls.
+// They are kept from line to line, so that only a line longer than those before allocates, and no command owns any.
 #[derive(Drop)]
 pub struct Operands {
     pub first: Vec<u8>,

@@ -25,6 +25,7 @@ fn main(rt: HostRuntime) -> io::Result<()> {
     let mut session = Session::new();
     let mut operands = Operands::new(rt.alloc());
     let mut line = Vec::new(rt.alloc());
+    // a loop is proved to end, and no input has more lines than this
     for _ in 0..u64::MAX {
         line.clear();
         if input.read_until(b'\n', &mut line)? == 0 {
@@ -45,7 +46,9 @@ fn answer_line<O: Write>(
     out: &mut O,
     line: &[u8],
 ) -> io::Result<()>
-    ensures silent { IsSilent (words_of line.now) → IsOk result × (session.new ≡ session.old) × (out.new ≡ out.old) }
+    ensures silent { IsSilent (words_of line.now) → IsOk result }
+    ensures idle { IsSilent (words_of line.now) → session.new ≡ session.old }
+    ensures unwritten { IsSilent (words_of line.now) → out.new ≡ out.old }
     ensures replied { OnOk result ((IsSilent (words_of line.now) → ⊥)
         → Replied (words_of line.now) session.old session.new (O.contents out.old) (O.contents out.new)) }
 {
