@@ -31,7 +31,11 @@ fn bytes_of(state: &StabilizerState) -> [u8; 4] {
 fn opens_1_to_48_qubits(rt: HostRuntime) {
     let mut state = StabilizerState::new();
     for (qubits, answer) in [(49, Err(2)), (0, Err(2)), (48, Ok(())), (1, Ok(()))] {
-        assert_eq!(rt; state.open(qubits).map_err(Refusal::number), answer, "at {qubits}");
+        assert_eq!(rt;
+            state.open(qubits).map_err(Refusal::number),
+            answer,
+            "at {qubits}"
+        );
     }
     assert_eq!(rt; bytes_of(&state), [0x04, 0, 0, 0]);
 }
@@ -51,7 +55,12 @@ fn projects_one_qubit(rt: HostRuntime) {
         (SPENT, *b"*Z", Err(12), SPENT),
     ] {
         let mut state = state_of(&bytes);
-        assert_eq!(rt; state.project(&text).map_err(Refusal::number), answer, "at {}", text[1]);
+        assert_eq!(rt;
+            state.project(&text).map_err(Refusal::number),
+            answer,
+            "at {}",
+            text[1]
+        );
         assert_eq!(rt; bytes_of(&state), left, "at {}", text[1]);
     }
 }
@@ -70,7 +79,10 @@ fn overlaps_are_conjugate(rt: HostRuntime) {
 fn refuses_a_weight_field_of_4097(rt: HostRuntime) {
     let mut state = state_of(&LEVEL);
     let answer = read(&mut state, &[0x04, 0x08, 0x00, 0x80]);
-    assert_eq!(rt; answer.map_err(|fault| (fault.number(), fault.place())), Err((4, 12)));
+    assert_eq!(rt;
+        answer.map_err(|fault| (fault.number(), fault.place())),
+        Err((4, 12))
+    );
     assert_eq!(rt; bytes_of(&state), LEVEL);
 }
 
