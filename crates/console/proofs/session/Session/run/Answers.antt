@@ -1,4 +1,4 @@
-use Rattle.std.proofs.Common.{refl, sym, subst, arith}
+use Rattle.std.proofs.Common.{sym, subst, arith}
 use Rattle.std.proofs.lemmas.List.{with_items_is}
 use Rattle.console.specs.Commands.{Opens, Gates, Projects, Reads, Takes, Enters}
 use Rattle.console.specs.declared.answer.Answer.TheVariants.{Number}
@@ -28,15 +28,6 @@ pub returns-in-Project-clause-ran : goal.returns-in-Project-clause-ran
 returns-in-Project-clause-ran c =
     let h = rw c.deref-in-Project.ensures.value at c.project.ensures.projected in
     rw c.in-Project.is (becomes c.in-Project.name (Projects _) c.args.self.now _ _ _ c.named_mut-in-Project.ensures.value h)
-
-pub returns-in-Sum-clause-ran : goal.returns-in-Sum-clause-ran
-returns-in-Sum-clause-ran c =
-    rw c.in-Sum.is (
-      c.exponential_sum.result,
-      refl,
-      record { bounds = c.exponential_sum.ensures.bounds; exact = c.exponential_sum.ensures.exact },
-      c.exponential_sum.ensures.zero,
-    )
 
 pub returns-in-Host-clause-ran : goal.returns-in-Host-clause-ran
 returns-in-Host-clause-ran c =
