@@ -161,6 +161,7 @@ impl StateBits<'_> {
         requires blank { RowIn self.now a (a + 1) body.old body.old }
         ensures { RowIn self.now a self.now.k body.old body.new }
     {
+        // by row numbers, which tell the place of a coupling: pivots with their numbers would be no shorter
         for c in a + 1..self.k {
             add_coupling(body, pivots[a], pivots[c], self.coupling(a, c));
         }
@@ -173,6 +174,7 @@ impl StateBits<'_> {
         requires blank { CouplingIn self.now 0 body.old body.old }
         ensures { CouplingIn self.now self.now.k body.old body.new }
     {
+        // by row numbers, for the same reason
         for a in 0..self.k {
             self.add_couplings_of(pivots, a, body);
         }

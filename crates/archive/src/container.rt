@@ -23,6 +23,7 @@ pub enum Denial<F> {
     Refused(Refusal),
 }
 
+// One impl for each kind of fault: one for every F would meet that of a refusal where F is `Refusal`.
 impl From<StateFault> for Denial<StateFault> {
     ghost from_gives = { λ f r. r ≡ Fault f };
 

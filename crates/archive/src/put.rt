@@ -113,6 +113,7 @@ fn put_couplings(buffer: &mut [u8], n: usize, pivots: &[usize], body: &PhasedSpa
     ensures framed { Framed buffer.old buffer.new (linear_place 0 n (length pivots.now) (length pivots.now))
         (bits_before_fill n (length pivots.now)) }
 {
+    // by row numbers: a row is put with those after it, and its number tells the place
     for a in 0..pivots.len() {
         put_coupling_row(buffer, n, pivots, a, body);
     }

@@ -1,4 +1,5 @@
 // Describes an archive: standard input has its bytes, standard output gets a line for each of its states and for each pair of them.
+// It is `list` with another document, since each program has a `main` of its own.
 #![tactic(auto)]
 
 use listing::description::Description;
