@@ -78,15 +78,6 @@ module _ (b : List ℕ) (p n k : ℕ) (good : Sound b p n k) (s : PhasedSpace) (
     pub shift-pivots : OnPivots b p n k s'
     shift-pivots j l = ap (λ t. bit t (lead (row_at b p n j))) g.0.2 ∙ on-pivots b p n k good s.space w.rows j l
 
--- a space that is not changed
-pub spans-same : (b : List ℕ) (p n k : ℕ) (s s' : PhasedSpace) → s'.space ≡ s.space → Spans b p n k s → Spans b p n k s'
-spans-same b p n k s s' e w = record {
-  count = ap (λ t. ones t.pivots) e ∙ w.count;
-  pivots = λ q o. w.pivots q (ap (λ t. bit t.pivots q) (sym e) ∙ o);
-  rows = λ a l. ap (λ t. get_or t.rows (lead (row_at b p n a)) 0) e ∙ w.rows a l;
-  shift = ap (λ t. t.shift) e ∙ w.shift;
-}
-
 pub pivots-same : (b : List ℕ) (p n k : ℕ) (s s' : PhasedSpace) → s'.space ≡ s.space → OnPivots b p n k s → OnPivots b p n k s'
 pivots-same b p n k s s' e w j l = ap (λ t. bit t.pivots (lead (row_at b p n j))) e ∙ w j l
 

@@ -1,100 +1,101 @@
 -- The set bits of a mask, from the top.
-use Rattle.std.proofs.Common.{◌≡◌, ℕ, ◌+◌, ◌-◌, ◌/◌, ◌%◌, ◌^◌, ◌<◌, ◌≤◌, refl, List, [], ◌∷◌, ◌++◌, length, get_or, sym, ap, ◌∙◌, subst, inl, inr, add_comm, arith, length-append, shr-shr, below_more}
-use lib.Count.{ones, ones_step}
-use native.Mathlib.Nat.{div-eq_of_lt}
+use Rattle.std.proofs.Common.{◌≡◌, ℕ, ◌+◌, ◌^◌, ◌<◌, ◌⊎◌, refl, List, [], ◌∷◌, ◌++◌, length, get_or, sym, ap, ◌∙◌, subst, inl, inr, arith, length-append, below_more, zero-add}
+use lib.Count.{ones, ones-le}
 use Rattle.std.proofs.Math.ListN.{get_or-append}
-use Rattle.std.proofs.Math.Nat.{div-one}
 use Rattle.std.proofs.Math.Seq.{get_or-append_seam}
 use Rattle.std.proofs.lemmas.Bool.{cases_eq}
-use Rattle.quadratic.specs.Bits.{bit}
-use Rattle.quadratic.proofs.Bitlaws.{bit_past, ones-digit}
+use Rattle.quadratic.specs.Bits.{bit, Highest}
+use Rattle.quadratic.proofs.Bitlaws.{bit-zero}
+use Rattle.quadratic.proofs.Lowest.{set_below, left-falls, dropped, undropped, ones-drop, ones-zero}
+use Rattle.quadratic.proofs.Numbering.{highest-small}
 use Rattle.archive.specs.Writes.{Falling}
 
--- the set bits from p on
-pub record Sofar (mask p : ℕ) (leads : List ℕ) : Type 0 where
-  pub room : length leads + p ≤ 48
-  pub count : ones (mask / 2 ^ p) ≡ length leads
-  pub high : (a : ℕ) → a < length leads → p ≤ get_or leads a 0
+-- the set bits that are not left, all of which stand above those that are
+pub record Sofar (mask left : ℕ) (leads : List ℕ) : Type 0 where
+  pub count : length leads + ones left ≡ ones mask
+  pub part : (q : ℕ) → bit left q ≡ 1 → bit mask q ≡ 1
+  pub high : (a : ℕ) → a < length leads → left < 2 ^ get_or leads a 0
   pub on : (a : ℕ) → a < length leads → bit mask (get_or leads a 0) ≡ 1
   pub order : (a c : ℕ) → a < c → c < length leads → get_or leads c 0 < get_or leads a 0
-  pub all : (q : ℕ) → p ≤ q → bit mask q ≡ 1 → (a : ℕ) × (a < length leads) × (q ≡ get_or leads a 0)
+  pub all : (q : ℕ) → bit mask q ≡ 1 → (bit left q ≡ 1) ⊎ ((a : ℕ) × (a < length leads) × (q ≡ get_or leads a 0))
 
-none : (mask : ℕ) → mask < 2 ^ 48 → Sofar mask 48 []
-none mask h = record {
-  room = omega arith;
-  count = ap ones (div-eq_of_lt {n = mask} {m = 2 ^ 48} h) ∙ ones-digit 0 (omega arith);
+none : (mask : ℕ) → Sofar mask mask []
+none mask = record {
+  count = zero-add (ones mask);
+  part = λ q o. o;
   high = λ a l. absurd (omega arith);
   on = λ a l. absurd (omega arith);
   order = λ a c l m. absurd (omega arith);
-  all = λ q l o. absurd (omega (arith, bit_past 48 mask q h l));
+  all = λ q o. inl o;
 }
 
-pub begun : (mask : ℕ) (leads : List ℕ) → leads ≡ [] → mask < 2 ^ 48 → Sofar mask 48 leads
-begun mask leads e h = rw e (none mask h)
+pub begun : (mask left : ℕ) (leads : List ℕ) → left ≡ mask → leads ≡ [] → Sofar mask left leads
+begun mask left leads l e = rw (l, e) (none mask)
 
-module _ (mask p : ℕ) (leads : List ℕ) (pos : 0 < p) (w : Sofar mask p leads) where
-  abbrev t : ℕ
-  t = p - 1
+module _ (mask left p left' : ℕ) (leads : List ℕ) (few : mask < 2 ^ 48) (inside : left < 2 ^ 48) (top : Highest left p left')
+    (w : Sofar mask left leads) where
+  fewer : ones left' + 1 ≡ ones left
+  fewer = ap (λ x. ones x + 1) top.rest ∙ ones-drop left p inside top.on
 
-  counted : ones (mask / 2 ^ t) ≡ length leads + bit mask t
-  unfolding bit
-  counted =
-      let e : t + 1 ≡ p = omega arith in
-      let s = ones_step (mask / 2 ^ t) in
-      let u = ap ones (shr-shr mask t 1 ∙ ap (λ i. mask / 2 ^ i) e) ∙ w.count in
-      s ∙ ap (λ i. mask / 2 ^ t % 2 + i) u ∙ add_comm (mask / 2 ^ t % 2) (length leads)
-
-  -- the next bit is 0
-  pub without : (mask / 2 ^ (p - 1) % 2 ≡ 1 → ⊥) → Sofar mask t leads
-  unfolding bit
-  without ne = let z : bit mask t ≡ 0 = omega arith in record {
-    room = omega (arith, w.room);
-    count = omega (arith, counted);
-    high = λ a l. omega (arith, w.high a l);
-    on = w.on;
-    order = w.order;
-    all = λ q l o. elim (cases_eq q t) [
-      | inl i ↦ let zero = ap (bit mask) i in absurd (omega arith)
-      | inr i ↦ w.all q (omega arith) o
-    ];
-  }
+  pub room : length leads < 48
+  room = omega (arith, w.count, fewer, ones-le 48 mask few)
 
   abbrev next : List ℕ
-  next = leads ++ t ∷ []
+  next = leads ++ p ∷ []
 
   old : (a : ℕ) → a < length leads → get_or next a 0 ≡ get_or leads a 0
-  old a l = get_or-append leads (t ∷ []) 0 a l
+  old a l = get_or-append leads (p ∷ []) 0 a l
 
-  here : get_or next (length leads) 0 ≡ t
-  here = get_or-append_seam leads t [] 0
+  here : get_or next (length leads) 0 ≡ p
+  here = get_or-append_seam leads p [] 0
 
   longer : length next ≡ length leads + 1
-  longer = length-append leads (t ∷ [])
+  longer = length-append leads (p ∷ [])
 
-  appended : bit mask t ≡ 1 → Sofar mask t next
-  appended one = record {
-    room = omega (arith, w.room, longer);
-    count = omega (arith, counted, longer);
-    high = rw longer (below_more _ _ (λ a l. rw (old a l) (omega (arith, w.high a l))) (rw here (omega arith)));
-    on = rw longer (below_more _ _ (λ a l. ap (bit mask) (old a l) ∙ w.on a l) (ap (bit mask) here ∙ one));
+  below : (a : ℕ) → a < length leads → p < get_or leads a 0
+  below a l = set_below (get_or leads a 0) left p (w.high a l) top.on
+
+  others : (q : ℕ) → (q ≡ p → ⊥) → bit left' q ≡ bit left q
+  others q ne = ap (λ x. bit x q) top.rest ∙ undropped left p q ne
+
+  -- the highest of those that are left goes behind the others
+  appended : Sofar mask left' next
+  appended = record {
+    count = omega (arith, w.count, fewer, longer);
+    part = λ q o. elim (cases_eq q p) [
+      | inl i ↦ let gone = sym o ∙ ap (bit left') i ∙ ap (λ x. bit x p) top.rest ∙ dropped left p top.on in absurd (omega (arith, gone))
+      | inr ne ↦ w.part q (sym (others q ne) ∙ o)
+    ];
+    high = rw longer (below_more _ _ (λ a l. rw (old a l) (let f = left-falls left p left' top.on top.rest in let h = w.high a l in omega (arith, f, h)))
+        (rw here (highest-small top)));
+    on = rw longer (below_more _ _ (λ a l. ap (bit mask) (old a l) ∙ w.on a l) (ap (bit mask) here ∙ w.part p top.on));
     order = λ a c l m. elim (cases_eq c (length leads)) [
-      | inl i ↦ rw (i, here, old a (omega arith)) (omega (arith, w.high a (omega arith)))
+      | inl i ↦ rw (i, here, old a (omega arith)) (below a (omega arith))
       | inr i ↦ rw (old a (omega (arith, longer)), old c (omega (arith, longer))) (w.order a c l (omega (arith, longer)))
     ];
-    all = λ q l o. elim (cases_eq q t) [
-      | inl i ↦ (length leads, omega (arith, longer), i ∙ sym here)
-      | inr i ↦ let f = w.all q (omega arith) o in (f.0, omega (arith, f.1, longer), f.2 ∙ sym (old f.0 f.1))
+    all = λ q o. elim (w.all q o) [
+      | inl b ↦ elim (cases_eq q p) [
+        | inl i ↦ inr (length leads, omega (arith, longer), i ∙ sym here)
+        | inr ne ↦ inl (others q ne ∙ b)
+      ]
+      | inr f ↦ inr (f.0, omega (arith, f.1, longer), f.2 ∙ sym (old f.0 f.1))
     ];
   }
 
-  -- the next bit is 1
-  pub with_it : (leads' : List ℕ) → leads' ≡ leads ++ (p - 1) ∷ [] → mask / 2 ^ (p - 1) % 2 ≡ 1 → Sofar mask (p - 1) leads'
-  unfolding bit
-  with_it leads' e one = rw e (appended one)
+  pub with_it : (leads' : List ℕ) → leads' ≡ leads ++ p ∷ [] → Sofar mask left' leads'
+  with_it leads' e = rw e appended
 
-pub falling : (mask p : ℕ) (leads : List ℕ) → p ≤ 0 → Sofar mask p leads → Falling mask (ones mask) leads
-falling mask p leads z w =
-    let e : p ≡ 0 = omega arith in
-    let same = sym w.count ∙ ap (λ i. ones (mask / 2 ^ i)) e ∙ ap ones (div-one mask) in
+pub falling : (mask left : ℕ) (leads : List ℕ) → left ≡ 0 → Sofar mask left leads → Falling mask (ones mask) leads
+falling mask left leads z w =
+    let none : ones left ≡ 0 = ap ones z ∙ ones-zero in
+    let same : length leads ≡ ones mask = omega (arith, w.count, none) in
     subst (λ k. Falling mask k leads) same
-    (record { places = refl; on = w.on; order = w.order; all = λ q o. w.all q (omega arith) o })
+    (record {
+      places = refl;
+      on = w.on;
+      order = w.order;
+      all = λ q o. elim (w.all q o) [
+        | inl b ↦ let zero = sym b ∙ ap (λ x. bit x q) z ∙ bit-zero q in absurd (omega (arith, zero))
+        | inr f ↦ f
+      ];
+    })

@@ -15,6 +15,10 @@ keep b b' to q w f h = bits-same b' b q w (λ j l. f (q + j) (omega arith))
 pub keep-before : (b b' : List ℕ) (from to q w : ℕ) → Framed b b' from to → q + w ≤ from → bits_from b' q w ≡ bits_from b q w
 keep-before b b' from to q w f h = keep b b' from q w f.0 h
 
+-- the same places, named otherwise
+pub reframe : (b b' : List ℕ) (p q p' q' : ℕ) → p ≡ p' → q ≡ q' → Framed b b' p q → Framed b b' p' q'
+reframe b b' p q p' q' e h f = (λ x l. f.0 x (omega arith), λ x l. f.1 x (omega arith))
+
 -- one part of the writing after another
 pub both : (b₀ b₁ b₂ : List ℕ) (p q r : ℕ) → p ≤ q → q ≤ r → Framed b₀ b₁ p q → Framed b₁ b₂ q r → Framed b₀ b₂ p r
 both b₀ b₁ b₂ p q r h g f e = (λ x l. e.0 x (omega arith) ∙ f.0 x l, λ x l. e.1 x l ∙ f.1 x (omega arith))

@@ -1,5 +1,5 @@
 -- The lead of a number, and the leads of rows in order.
-use Rattle.std.proofs.Common.{◌≡◌, ℕ, zero, suc, ◌+◌, ◌-◌, ◌*◌, ◌/◌, ◌%◌, ◌^◌, ◌<◌, ◌≤◌, true, eqb, ltb, List, sym, ap, ◌∙◌, inl, inr, pow-suc, arith, pow_mono}
+use Rattle.std.proofs.Common.{◌≡◌, ℕ, zero, suc, ◌+◌, ◌-◌, ◌*◌, ◌/◌, ◌%◌, ◌^◌, ◌<◌, ◌≤◌, true, eqb, ltb, List, sym, ap, ◌∙◌, inl, inr, pow-suc, arith, pow_mono, pow_pos}
 use lib.Count.{leading_top}
 use Rattle.std.proofs.lemmas.Bool.{cases_lt, cases_eq, and_parts, ltb-true, eqb-true}
 use Rattle.quadratic.specs.Bits.{bit}
@@ -7,6 +7,19 @@ use Rattle.quadratic.proofs.Bitlaws.{bit_past, bit-top}
 use Rattle.archive.specs.Layout.{row_at, lead, descends, apart, off_leads}
 use Rattle.archive.specs.Held.{Sound}
 use Rattle.archive.proofs.Laws.{bits_below}
+
+-- the lead is the whole logarithm
+pub lead_log : (v r : ℕ) → v < 2 ^ 64 → 2 ^ r ≤ v → v < 2 * 2 ^ r → r ≡ lead v
+lead_log v r small least most =
+    let t = leading_top 64 v (omega (arith, pow_pos r)) small in
+    let e : lead v ≡ t.0 = omega (arith, t.1) in
+    elim (cases_lt r t.0) [
+      | inl l ↦ let m : 2 ^ suc r ≤ 2 ^ t.0 = pow_mono l in absurd (omega (arith, t.2, pow-suc 2 r))
+      | inr g ↦ elim (cases_lt t.0 r) [
+        | inl l ↦ let m : 2 ^ suc t.0 ≤ 2 ^ r = pow_mono l in absurd (omega (arith, t.3))
+        | inr h ↦ omega arith
+      ]
+    ]
 
 -- the highest bit of a number of 48 bits
 module _ (v : ℕ) (pos : 0 < v) (low : v < 2 ^ 48) where

@@ -149,13 +149,6 @@ module _ (b : List ℕ) (s : StabilizerState) (k : ℕ) (leads : List ℕ) (ek :
         held b 0 n k s.loss s.body s (sym h.size) (sym h.rank) (sym h.weight) spans weighs refl refl refl,
       )
 
--- the rows and the shift have n bits
-pub fields-low : (s : StabilizerState) (n k : ℕ) (leads : List ℕ) (t : PhasedSpace) → n ≡ s.qubits → t ≡ s.body
-    → Falling s.body.space.pivots k leads
-    → ((a : ℕ) → a < k → row t.space.rows (get_or leads a 0) < 2 ^ n) × (t.space.shift < 2 ^ n)
-fields-low s n k leads t en et fall =
-    rw (en, et) (λ a l. row_below s.body.space (get_or leads a 0) (fall.on a l) s.qubits s.inside, s.near)
-
 -- the bytes of the state, in a longer run
 module _ (s : StabilizerState) (b : List ℕ) (m n k loss : ℕ) (leads : List ℕ) (t : PhasedSpace) (en : n ≡ s.qubits)
     (el : loss ≡ s.loss) (et : t ≡ s.body)

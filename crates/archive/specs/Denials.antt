@@ -3,15 +3,20 @@ use Rattle.std.specs.Prelude.{ℕ, Bool, cond, ◌&&◌, List, Some, None, Optio
 use Rattle.cyclotomic.specs.declared.refusal.Refusal.TheVariants.{Index}
 use Rattle.cyclotomic.specs.Refusals.{number_of}
 use Rattle.archive.specs.declared.fault.ArchiveFault.{ArchiveFault}
+use Rattle.archive.specs.declared.fault.Report.{Report}
 use Rattle.archive.specs.declared.fault.StateFault.{StateFault}
 use Rattle.archive.specs.declared.container.Denial.{Denial}
 use Rattle.archive.specs.declared.container.Denial.TheVariants.{Fault, Refused}
 use Rattle.archive.specs.Faults.{state_report}
 use Rattle.archive.specs.Archives.{count_of, archive_fault}
 
+-- the number of a denial by what its faults report, and that of one by a state's fault
+abbrev pub number_by : {F : Type 0} → (F → Report) → Denial F → ℕ
+number_by report (Fault f) = (report f).number
+number_by report (Refused e) = number_of e
+
 abbrev pub denial_number : Denial StateFault → ℕ
-denial_number (Fault f) = (state_report f).number
-denial_number (Refused e) = number_of e
+denial_number = number_by state_report
 
 abbrev pub denial : Option ArchiveFault → Bool → Option (Denial ArchiveFault)
 denial (Some f) known = Some (Fault f)

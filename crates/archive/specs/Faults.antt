@@ -3,6 +3,8 @@ use Rattle.std.specs.Prelude.{ℕ, List, ◌++◌, codes, decimal}
 use Rattle.archive.specs.declared.fault.Field.{Field}
 use Rattle.archive.specs.declared.fault.Field.TheVariants.{Count, Qubits, Dimension, Weight, Phase, Row}
 use Rattle.archive.specs.declared.fault.Field.TheVariants.{Shift, Linear, Coupling, Fill, Rest}
+use Rattle.archive.specs.declared.fault.Layer.{Layer}
+use Rattle.archive.specs.declared.fault.Layer.TheVariants.{Bits as BitsLayer, State as StateLayer, Archive as ArchiveLayer}
 use Rattle.archive.specs.declared.fault.Rule.{Rule}
 use Rattle.archive.specs.declared.fault.Rule.TheVariants.{QubitRange, DimensionRange, WeightRange, EchelonForm, ZeroFill, NothingLeft}
 use Rattle.archive.specs.declared.fault.BitsFault.{BitsFault}
@@ -11,6 +13,11 @@ use Rattle.archive.specs.declared.fault.StateFault.TheVariants.{Bits, Broken}
 use Rattle.archive.specs.declared.fault.ArchiveFault.{ArchiveFault}
 use Rattle.archive.specs.declared.fault.ArchiveFault.TheVariants.{State, Short, Overfull, LeftOver}
 use Rattle.archive.specs.declared.fault.Report.{Report}
+
+abbrev pub layer_number : Layer → ℕ
+layer_number BitsLayer = 1
+layer_number StateLayer = 2
+layer_number ArchiveLayer = 3
 
 abbrev pub field_number : Field → ℕ
 field_number Count = 0

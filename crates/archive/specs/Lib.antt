@@ -11,3 +11,4 @@ pub mod StateBits
 pub mod Coefficients
 pub mod Loads
 pub mod Writes
+pub mod StateFields

@@ -15,40 +15,40 @@ abbrev pub phase_in : StateBits → ℕ
 phase_in s = bits_from s.bytes.now (s.start + 25) 3
 
 abbrev pub row_in : StateBits → ℕ → ℕ
-row_in s a = row_at s.bytes.now s.start s.n a
+row_in s a = row_at s.bytes.now s.start s.shape.n a
 
 abbrev pub shift_in : StateBits → ℕ
-shift_in s = bits_from s.bytes.now (shift_place s.start s.n s.k) s.n
+shift_in s = bits_from s.bytes.now (shift_place s.start s.shape.n s.shape.k) s.shape.n
 
 abbrev pub linear_in : StateBits → ℕ → ℕ
-linear_in s a = bits_from s.bytes.now (linear_place s.start s.n s.k a) 2
+linear_in s a = bits_from s.bytes.now (linear_place s.start s.shape.n s.shape.k a) 2
 
 abbrev pub coupling_in : StateBits → ℕ → ℕ → ℕ
-coupling_in s a c = bits_from s.bytes.now (place_of_coupling s.start s.n s.k a c) 1
+coupling_in s a c = bits_from s.bytes.now (place_of_coupling s.start s.shape.n s.shape.k a c) 1
 
 -- the space and the phases
 abbrev pub SpansIn : StateBits → PhasedSpace → Type 0
-SpansIn s body = Spans s.bytes.now s.start s.n s.k body
+SpansIn s body = Spans s.bytes.now s.start s.shape.n s.shape.k body
 
 abbrev pub WeighsIn : StateBits → PhasedSpace → Type 0
-WeighsIn s body = Weighs s.bytes.now s.start s.n s.k body
+WeighsIn s body = Weighs s.bytes.now s.start s.shape.n s.shape.k body
 
 -- what has been taken over: the first a rows, and their leads
 abbrev pub RaisedIn : StateBits → ℕ → PhasedSpace → Type 0
-RaisedIn s a body = Raised s.bytes.now s.start s.n a body
+RaisedIn s a body = Raised s.bytes.now s.start s.shape.n a body
 
 abbrev pub ListedIn : StateBits → ℕ → List ℕ → Type 0
-ListedIn s a leads = Listed s.bytes.now s.start s.n a leads
+ListedIn s a leads = Listed s.bytes.now s.start s.shape.n a leads
 
 abbrev pub OnPivotsIn : StateBits → PhasedSpace → Type 0
-OnPivotsIn s body = OnPivots s.bytes.now s.start s.n s.k body
+OnPivotsIn s body = OnPivots s.bytes.now s.start s.shape.n s.shape.k body
 
 -- the linear coefficients of the first a rows; the couplings of row a with the rows before row c; those of the first a rows
 abbrev pub LinearIn : StateBits → ℕ → PhasedSpace → PhasedSpace → Type 0
-LinearIn s a body body' = LinearUpTo s.bytes.now s.start s.n s.k a body body'
+LinearIn s a body body' = LinearUpTo s.bytes.now s.start s.shape.n s.shape.k a body body'
 
 abbrev pub RowIn : StateBits → ℕ → ℕ → PhasedSpace → PhasedSpace → Type 0
-RowIn s a c body body' = RowUpTo s.bytes.now s.start s.n s.k a c body body'
+RowIn s a c body body' = RowUpTo s.bytes.now s.start s.shape.n s.shape.k a c body body'
 
 abbrev pub CouplingIn : StateBits → ℕ → PhasedSpace → PhasedSpace → Type 0
-CouplingIn s a body body' = CouplingUpTo s.bytes.now s.start s.n s.k a body body'
+CouplingIn s a body body' = CouplingUpTo s.bytes.now s.start s.shape.n s.shape.k a body body'

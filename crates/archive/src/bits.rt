@@ -3,7 +3,7 @@ ghost use Rattle.std.specs.Prelude.{◌≡◌, ℕ, ◌+◌, ◌-◌, ◌*◌, �
 ghost use Rattle.archive.specs.Bits.{bit_at, bits_from, Framed};
 
 // The number in the bits from a place on, read a byte at a time. The first and the last step may be shorter than the others, so there
-// are no equal parts to go over.
+// are no equal parts to go over. The width is a number with a premise, as of `<<`: a type for it would be unwrapped in each line.
 pub(crate) fn bits_at(bytes: &[u8], at: usize, width: usize) -> u64
     requires there { at + width ≤ 8 * length bytes.now }
     requires narrow { width ≤ 64 }
@@ -35,7 +35,8 @@ fn put_bit(bytes: &mut [u8], i: usize, bit: u8)
     bytes[i / 8] = ((old >> s) / 2 * 2 + bit << s) + low;
 }
 
-// Puts a number into the bits from a place on; every other bit stays.
+// Puts a number into the bits from a place on; every other bit stays. Bit by bit: a field may begin and end inside a byte, so by bytes
+// the parts would not be equal, and each bit's place and value come from its number.
 pub(crate) fn put_bits(bytes: &mut [u8], at: usize, width: usize, value: u64)
     requires room { at + width ≤ 8 * length bytes.old }
     requires narrow { width ≤ 64 }

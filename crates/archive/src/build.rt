@@ -1,37 +1,27 @@
 // The state that stands in bits without a fault.
-ghost use Rattle.std.specs.Prelude.{◌≡◌, suc, ◌+◌, ◌-◌, ◌*◌, ◌^◌, ◌<◌, ◌≤◌, None};
-ghost use Rattle.quadratic.specs.Bits.{bit};
+ghost use Rattle.std.specs.Prelude.{◌≡◌, ◌+◌, ◌*◌, ◌^◌, ◌<◌, ◌≤◌, None};
+ghost use Rattle.quadratic.specs.Bits.{bit, flag};
 ghost use Rattle.archive.specs.Coefficients.{LinearGrown, CouplingGrown};
-ghost use Rattle.archive.specs.Held.{Sound, Holds, place_of_coupling};
+ghost use Rattle.archive.specs.Held.{Sound, Holds};
 ghost use Rattle.archive.specs.Layout.{state_fault};
 
 use crate::bits::bits_at;
 use crate::pivots::Pivots;
+use crate::shape::{
+    DIMENSION_PLACE, DIMENSION_WIDTH, LINEAR_WIDTH, PHASE_PLACE, PHASE_WIDTH, QUBITS_WIDTH, Shape,
+    WEIGHT_PLACE, WEIGHT_WIDTH,
+};
 use quadratic::phased::PhasedSpace;
 use stabilizer::state::StabilizerState;
 
-// The bits of a state without a fault, of n qubits and dimension k, from the start on.
+// The bits of a state without a fault, from the start on.
 #[derive(Clone, Copy)]
 struct StateBits<'a> {
     bytes: &'a [u8],
     start: usize,
-    n: usize,
-    k: usize,
+    shape: Shape,
     ghost near: { start ≤ 2 ^ 31 },
-    ghost sound: { Sound bytes.now start n k },
-}
-
-// The place of the coupling of row a with the next.
-pub(crate) fn coupling_place(start: usize, n: usize, k: usize, a: usize) -> usize
-    requires near { start ≤ 2 ^ 31 }
-    requires few { n ≤ 48 }
-    requires fewer { k ≤ n }
-    requires row { a < k }
-    ensures { result ≡ place_of_coupling start n k a (suc a) }
-{
-    let all = k * (k - 1) / 2;
-    let left = (k - a) * (k - a - 1) / 2;
-    start + 28 + k * n + n + k * 2 + (all - left)
+    ghost sound: { Sound bytes.now start shape.n shape.k },
 }
 
 // Adds twice a value to the linear coefficient of the row with the pivot p.
@@ -43,17 +33,13 @@ fn add_linear(body: &mut PhasedSpace, p: usize, value: u64)
     let _ = body.add_linear(p, 2 * value);
 }
 
-// Couples the rows with the pivots p and q, if the value is 1.
-fn add_coupling(body: &mut PhasedSpace, p: usize, q: usize, value: u64)
+// Couples the rows with the pivots p and q.
+fn add_coupling(body: &mut PhasedSpace, p: usize, q: usize)
     requires pivot { bit body.old.space.pivots p ≡ 1 }
     requires later { bit body.old.space.pivots q ≡ 1 }
     requires order { q < p }
-    requires few { value < 2 }
-    ensures { CouplingGrown body.old body.new p q value }
+    ensures { CouplingGrown body.old body.new p q 1 }
 {
-    if value == 0 {
-        return;
-    }
     let _ = body.couple(p, q);
 }
 
@@ -64,45 +50,44 @@ impl StateBits<'_> {
     fn loss(&self) -> u64
         ensures { result ≡ loss_in self.now }
     {
-        bits_at(self.bytes, self.start + 12, 13)
+        bits_at(self.bytes, self.start + WEIGHT_PLACE, WEIGHT_WIDTH)
     }
 
     fn phase(&self) -> u64
         ensures { result ≡ phase_in self.now }
     {
-        bits_at(self.bytes, self.start + 25, 3)
+        bits_at(self.bytes, self.start + PHASE_PLACE, PHASE_WIDTH)
     }
 
     fn row(&self, a: usize) -> u64
-        requires { a < self.now.k }
+        requires { a < self.now.shape.k }
         ensures { result ≡ row_in self.now a }
     {
-        bits_at(self.bytes, self.start + 28 + a * self.n, self.n)
+        bits_at(self.bytes, self.start + self.shape.row(a), self.shape.n)
     }
 
     fn shift(&self) -> u64
         ensures { result ≡ shift_in self.now }
     {
-        bits_at(self.bytes, self.start + 28 + self.k * self.n, self.n)
+        bits_at(self.bytes, self.start + self.shape.shift(), self.shape.n)
     }
 
     // Half the linear coefficient of row a.
     fn linear(&self, a: usize) -> u64
-        requires { a < self.now.k }
+        requires { a < self.now.shape.k }
         ensures { result ≡ linear_in self.now a }
     {
-        let first = self.start + 28 + self.k * self.n + self.n;
-        bits_at(self.bytes, first + a * 2, 2)
+        bits_at(self.bytes, self.start + self.shape.linear(a), LINEAR_WIDTH)
     }
 
-    // Whether row a is coupled to a later row.
-    fn coupling(&self, a: usize, c: usize) -> u64
+    // Whether row a is coupled to the later row c.
+    fn coupling(&self, a: usize, c: usize) -> bool
         requires order { a < c }
-        requires inside { c < self.now.k }
-        ensures { result ≡ coupling_in self.now a c }
+        requires inside { c < self.now.shape.k }
+        ensures { flag result ≡ coupling_in self.now a c }
     {
-        let first = coupling_place(self.start, self.n, self.k, a);
-        bits_at(self.bytes, first + (c - a - 1), 1)
+        let first = self.start + self.shape.coupling(a);
+        bits_at(self.bytes, first + (c - a - 1), 1) == 1
     }
 }
 
@@ -114,12 +99,13 @@ impl StateBits<'_> {
     // Adds the rows to a space of one string, and answers their pivots.
     fn add_rows(&self, body: &mut PhasedSpace) -> Pivots
         requires { Begun body.old body.old.form.phase }
-        ensures raised { RaisedIn self.now self.now.k body.new }
-        ensures listed { ListedIn self.now self.now.k result }
+        ensures raised { RaisedIn self.now self.now.shape.k body.new }
+        ensures listed { ListedIn self.now self.now.shape.k result.items }
         ensures same { body.new.form ≡ body.old.form }
     {
         let mut pivots = Pivots::new();
-        for a in 0..self.k {
+        // row by row, for each is tested against those before it
+        for a in 0..self.shape.k {
             let Some(pivot) = body.append_row(self.row(a)) else {
                 unreachable()
             };
@@ -133,7 +119,7 @@ impl StateBits<'_> {
         requires { Begun body.old body.old.form.phase }
         ensures spans { SpansIn self.now body.new }
         ensures pivots { OnPivotsIn self.now body.new }
-        ensures listed { ListedIn self.now self.now.k result }
+        ensures listed { ListedIn self.now self.now.shape.k result.items }
         ensures same { body.new.form ≡ body.old.form }
     {
         let pivots = self.add_rows(body);
@@ -143,10 +129,10 @@ impl StateBits<'_> {
 
     // Sets the linear coefficients of all rows, which are 0 at first.
     fn add_linear(&self, pivots: &[usize], body: &mut PhasedSpace)
-        requires listed { ListedIn self.now self.now.k pivots.now }
+        requires listed { ListedIn self.now self.now.shape.k pivots.now }
         requires pivots { OnPivotsIn self.now body.old }
         requires blank { LinearIn self.now 0 body.old body.old }
-        ensures { LinearIn self.now self.now.k body.old body.new }
+        ensures { LinearIn self.now self.now.shape.k body.old body.new }
     {
         for (a, &p) in pivots.iter().enumerate() {
             add_linear(body, p, self.linear(a));
@@ -155,27 +141,29 @@ impl StateBits<'_> {
 
     // Sets the couplings of row a with later rows, which are 0 at first.
     fn add_couplings_of(&self, pivots: &[usize], a: usize, body: &mut PhasedSpace)
-        requires listed { ListedIn self.now self.now.k pivots.now }
+        requires listed { ListedIn self.now self.now.shape.k pivots.now }
         requires pivots { OnPivotsIn self.now body.old }
-        requires row { a < self.now.k }
+        requires row { a < self.now.shape.k }
         requires blank { RowIn self.now a (a + 1) body.old body.old }
-        ensures { RowIn self.now a self.now.k body.old body.new }
+        ensures { RowIn self.now a self.now.shape.k body.old body.new }
     {
         // by row numbers, which tell the place of a coupling: pivots with their numbers would be no shorter
-        for c in a + 1..self.k {
-            add_coupling(body, pivots[a], pivots[c], self.coupling(a, c));
+        for c in a + 1..self.shape.k {
+            if self.coupling(a, c) {
+                add_coupling(body, pivots[a], pivots[c]);
+            }
         }
     }
 
     // Sets the couplings of all rows, which are 0 at first.
     fn add_couplings(&self, pivots: &[usize], body: &mut PhasedSpace)
-        requires listed { ListedIn self.now self.now.k pivots.now }
+        requires listed { ListedIn self.now self.now.shape.k pivots.now }
         requires pivots { OnPivotsIn self.now body.old }
         requires blank { CouplingIn self.now 0 body.old body.old }
-        ensures { CouplingIn self.now self.now.k body.old body.new }
+        ensures { CouplingIn self.now self.now.shape.k body.old body.new }
     {
         // by row numbers, for the same reason
-        for a in 0..self.k {
+        for a in 0..self.shape.k {
             self.add_couplings_of(pivots, a, body);
         }
     }
@@ -199,13 +187,16 @@ pub(crate) fn build(bytes: &[u8], start: usize) -> StabilizerState
     requires sound { state_fault bytes.now start ≡ None }
     ensures { Holds bytes.now start result }
 {
-    let n = bits_at(bytes, start, 6);
-    let k = bits_at(bytes, start + 6, 6);
+    let n = bits_at(bytes, start, QUBITS_WIDTH);
+    let k = bits_at(bytes, start + DIMENSION_PLACE, DIMENSION_WIDTH);
+    let shape = Shape {
+        n: n as usize,
+        k: k as usize,
+    };
     let bits = StateBits {
         bytes,
         start,
-        n: n as usize,
-        k: k as usize,
+        shape,
     };
     let Some(state) = StabilizerState::assemble(n, bits.loss(), bits.body()) else {
         unreachable()

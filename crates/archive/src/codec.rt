@@ -10,8 +10,7 @@ ghost use Rattle.cyclotomic.specs.declared.refusal.Refusal.TheVariants.{Buffer};
 use crate::build::build;
 use crate::fault::{Field, Rule, StateFault};
 use crate::layout::state_end;
-use crate::pivots::Pivots;
-use crate::put::{bit_count, put_fields};
+use crate::put::StateFields;
 use cyclotomic::refusal::Refusal;
 use stabilizer::state::StabilizerState;
 
@@ -31,7 +30,7 @@ fn alone(bytes: &[u8]) -> Result<(), StateFault>
     Ok(())
 }
 
-// Reads the state that the bytes hold; refused, the state stays as it was.
+// Reads the state that the bytes hold. It writes in place, as every call that can be refused: refused, the state stays as it was.
 pub fn read(state: &mut StabilizerState, bytes: &[u8]) -> Result<(), StateFault>
     ensures verdict { Blames result (alone_fault bytes.now) }
     ensures first { MatchResult result (λ _. Faultless (alone_verdicts bytes.now)) (First (alone_verdicts bytes.now)) }
@@ -56,14 +55,12 @@ pub fn write(state: &StabilizerState, buffer: &mut [u8]) -> Result<usize, Refusa
     ensures past { MatchResult result (λ m. (i : ℕ) → m ≤ i → slice_index buffer.new i ≡ slice_index buffer.old i)
         (λ _. Unit {0}) }
 {
-    let n = state.qubits() as usize;
-    let pivots = Pivots::of_mask(state.body().pivots());
-    let pivots = pivots.as_slice();
-    let length = bit_count(n, pivots.len()).div_ceil(8);
+    let fields = StateFields::of(state);
+    let length = fields.bit_count().div_ceil(8);
     if buffer.len() < length {
         return Err(Refusal::Buffer);
     }
-    put_fields(buffer, n, state.loss(), pivots, state.body());
+    fields.put(buffer);
     Ok(length)
 }
 

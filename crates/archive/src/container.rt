@@ -4,14 +4,15 @@ ghost use Rattle.archive.specs.First.{Blames, Faultless, First};
 ghost use Rattle.archive.specs.Held.{Holds};
 ghost use Rattle.archive.specs.Layout.{state_fault, end_of_state};
 ghost use Rattle.archive.specs.declared.container.Denial.TheVariants.{Fault, Refused};
-ghost use Rattle.archive.specs.Denials.{denial_number, denied};
+ghost use Rattle.archive.specs.Denials.{number_by, denied};
 ghost use Rattle.archive.specs.Archives.{carried, count_of, place_after, states_fault, archive_verdicts, archive_fault, part_of};
 
 use crate::build::build;
-use crate::fault::{ArchiveFault, BitsFault, Field, StateFault};
+use crate::fault::{ArchiveFault, BitsFault, Fault, Field};
 use crate::layout::state_end;
 use cyclotomic::refusal::Refusal;
 use stabilizer::state::StabilizerState;
+use std::ops::Range;
 
 // How many states an archive may have.
 const MOST_STATES: usize = 100;
@@ -23,19 +24,10 @@ pub enum Denial<F> {
     Refused(Refusal),
 }
 
-// One impl for each kind of fault: one for every F would meet that of a refusal where F is `Refusal`.
-impl From<StateFault> for Denial<StateFault> {
+impl<F: Fault> From<F> for Denial<F> {
     ghost from_gives = { λ f r. r ≡ Fault f };
 
-    fn from(fault: StateFault) -> Denial<StateFault> {
-        Denial::Fault(fault)
-    }
-}
-
-impl From<ArchiveFault> for Denial<ArchiveFault> {
-    ghost from_gives = { λ f r. r ≡ Fault f };
-
-    fn from(fault: ArchiveFault) -> Denial<ArchiveFault> {
+    fn from(fault: F) -> Denial<F> {
         Denial::Fault(fault)
     }
 }
@@ -48,10 +40,10 @@ impl<F> From<Refusal> for Denial<F> {
     }
 }
 
-impl Denial<StateFault> {
+impl<F: Fault> Denial<F> {
     // The number that stands for it.
     pub fn number(self) -> u64
-        ensures { result ≡ denial_number self }
+        ensures { result ≡ number_by F.reported self }
     {
         match self {
             Denial::Fault(fault) => fault.number(),
@@ -68,7 +60,7 @@ fn sheet_end(archive: &[u8], place: usize, sheet: u64) -> Result<usize, ArchiveF
     ensures near { IfOk result (λ q. q ≤ place + 4096) }
     ensures inside { IfOk result (λ q. q ≤ 8 * length archive.now) }
 {
-    state_end(archive, place).map_err(|fault| ArchiveFault::from(fault).numbered(sheet))
+    state_end(archive, place).map_err(|fault| ArchiveFault::State { sheet, fault })
 }
 
 // The place after m states that begin at a place, behind the first `done`.
@@ -83,6 +75,7 @@ pub(crate) fn skip(archive: &[u8], at: usize, done: usize, m: usize) -> Result<u
     ensures inside { IfOk result (λ q. q ≤ 8 * length archive.now) }
 {
     let mut place = at;
+    // a state says only where it ends, so there are only numbers to go over, and a fold would be no shorter
     for i in done..done + m {
         place = sheet_end(archive, place, (i + 1) as u64)?;
     }
@@ -124,14 +117,14 @@ pub fn check(archive: &[u8]) -> Result<u64, ArchiveFault>
     Ok(count as u64)
 }
 
-// Checks a whole archive, and answers the bytes from which on and up to which its state with the number stands.
-fn locate(archive: &[u8], i: u64) -> Result<(usize, usize), Denial<ArchiveFault>>
+// Checks a whole archive, and answers the range of bytes where its state with the number stands.
+fn locate(archive: &[u8], i: u64) -> Result<Range<usize>, Denial<ArchiveFault>>
     ensures verdict { Blames result (denied archive.now i) }
-    ensures from { IfOk result (λ s. 8 * s.0 ≡ place_after archive.now (i - 1)) }
-    ensures to { IfOk result (λ s. 8 * s.1 ≡ place_after archive.now i) }
-    ensures order { IfOk result (λ s. s.0 ≤ s.1) }
-    ensures inside { IfOk result (λ s. s.1 ≤ length archive.now) }
-    ensures near { IfOk result (λ s. s.0 ≤ 2 ^ 20) }
+    ensures from { IfOk result (λ part. 8 * part.start ≡ place_after archive.now (i - 1)) }
+    ensures to { IfOk result (λ part. 8 * part.end ≡ place_after archive.now i) }
+    ensures order { IfOk result (λ part. part.start ≤ part.end) }
+    ensures inside { IfOk result (λ part. part.end ≤ length archive.now) }
+    ensures near { IfOk result (λ part. part.start ≤ 2 ^ 20) }
     ensures sound { OnOk result (state_fault archive.now (place_after archive.now (i - 1)) ≡ None) }
 {
     let count = counted(archive)?;
@@ -141,7 +134,7 @@ fn locate(archive: &[u8], i: u64) -> Result<(usize, usize), Denial<ArchiveFault>
     let before = (i - 1) as usize;
     let from = skip(archive, 8, 0, before)?;
     let to = skip(archive, from, before, 1)?;
-    Ok((from / 8, to / 8))
+    Ok(from / 8..to / 8)
 }
 
 // The part of an archive that is its state with the number.
@@ -149,17 +142,17 @@ pub fn view<'a>(archive: &'a [u8], i: u64) -> Result<&'a [u8], Denial<ArchiveFau
     ensures verdict { Blames result (denied archive.now i) }
     ensures part { IfOk result (λ part. part.now ≡ part_of archive.now i) }
 {
-    let (from, to) = locate(archive, i)?;
-    Ok(&archive[from..to])
+    let part = locate(archive, i)?;
+    Ok(&archive[part])
 }
 
-// Reads the state with the number from an archive; denied, the state stays as it was.
+// Reads the state with the number from an archive, in place as `read` does; denied, the state stays as it was.
 pub fn take(state: &mut StabilizerState, archive: &[u8], i: u64) -> Result<(), Denial<ArchiveFault>>
     ensures verdict { Blames result (denied archive.now i) }
     ensures state { MatchResult result (λ _. Holds archive.now (place_after archive.now (i - 1)) state.new)
         (λ _. state.new ≡ state.old) }
 {
-    let (from, _) = locate(archive, i)?;
-    *state = build(archive, 8 * from);
+    let part = locate(archive, i)?;
+    *state = build(archive, 8 * part.start);
     Ok(())
 }

@@ -1,22 +1,27 @@
 // The bits of a state, whose fields are read one after another.
 ghost use Rattle.std.specs.Prelude.{◌≡◌, ◌+◌, ◌*◌, ◌^◌, ◌<◌, ◌≤◌, [], ◌∷◌, length, IfErr, IfOk, OnOk};
 ghost use Rattle.archive.specs.Bits.{bits_from};
-ghost use Rattle.archive.specs.Cursors.{Moved, fault_at};
 ghost use Rattle.archive.specs.First.{Blames};
 ghost use Rattle.archive.specs.Layout.{copies, free, ranged};
 
 use crate::bits::bits_at;
 use crate::fault::{BitsFault, Field, Rule, StateFault};
 
-// Where the state begins, and where the next field does.
+// Where the state begins, and where the next field does. Only the first is near the front by the type: a step from the last near place
+// would break that of the second.
 #[derive(Clone, Copy)]
 pub(crate) struct Cursor<'a> {
     pub(crate) bytes: &'a [u8],
     pub(crate) start: usize,
     pub(crate) at: usize,
+    ghost near: { start ≤ 2 ^ 31 },
 }
 
+// A width is a number with a premise, and goes beside its field: each call takes both from its own kind of field, and a type of the two
+// would be made for one call and taken apart in it.
 impl Cursor<'_> {
+    ghost use Rattle.archive.specs.Cursors.{Moved, fault_at};
+
     // Steps over a field, if its bits are all there.
     pub(crate) fn skip(&mut self, field: Field, width: usize) -> Result<(), BitsFault>
         requires narrow { width ≤ 64 }
@@ -90,7 +95,7 @@ impl Cursor<'_> {
         ensures verdict { Blames result (fault_at self.old (copies count (free field width))) }
         ensures moved { OnOk result (Moved self.old self.new (count * width)) }
     {
-        for _i in 0..count {
+        for _ in 0..count {
             self.skip(field, width)?;
         }
         Ok(())

@@ -2,23 +2,27 @@
 ghost use Rattle.std.specs.Prelude.{◌≡◌, Some};
 ghost use Rattle.archive.specs.declared.fault.StateFault.TheVariants.{Bits};
 ghost use Rattle.archive.specs.declared.fault.ArchiveFault.TheVariants.{State, Short};
-ghost use Rattle.archive.specs.Faults.{field_number, rule_number, numbered, bits_report, state_report, archive_report, fault_text};
+ghost use Rattle.archive.specs.declared.fault.Report.{Report};
+ghost use Rattle.archive.specs.Faults.{layer_number, field_number, rule_number, numbered};
+ghost use Rattle.archive.specs.Faults.{bits_report, state_report, archive_report, fault_text};
 
 use std::fmt;
 
-// The numbers of the faults that break no rule of a state: the bytes end inside a field, a count over 100, bytes left over.
-const CUT_SHORT: u64 = 1;
-
-const OVERFULL: u64 = 7;
-
-const LEFT_OVER: u64 = 8;
-
 // The layers.
-const BITS_LAYER: u64 = 1;
+#[derive(Clone, Copy)]
+enum Layer {
+    Bits = 1,
+    State = 2,
+    Archive = 3,
+}
 
-const STATE_LAYER: u64 = 2;
-
-const ARCHIVE_LAYER: u64 = 3;
+// The faults of extent, which break no rule of a state: the bytes end inside a field, a count over 100, bytes left over.
+#[derive(Clone, Copy)]
+enum Extent {
+    CutShort = 1,
+    Overfull = 7,
+    LeftOver = 8,
+}
 
 // A field of the bytes. `Rest` is what stands after the last.
 #[derive(Clone, Copy, Debug, PartialEq, Eq)]
@@ -70,32 +74,6 @@ pub struct BitsFault {
     pub place: usize,
 }
 
-impl BitsFault {
-    pub fn number(self) -> u64
-        ensures { result ≡ (bits_report self).number }
-    {
-        Report::from(self).number
-    }
-
-    pub fn layer(self) -> u64
-        ensures { result ≡ (bits_report self).layer }
-    {
-        Report::from(self).layer
-    }
-
-    pub fn field(self) -> u64
-        ensures { result ≡ (bits_report self).field }
-    {
-        Report::from(self).field
-    }
-
-    pub fn place(self) -> usize
-        ensures { result ≡ (bits_report self).place }
-    {
-        Report::from(self).place
-    }
-}
-
 // The second layer: the bits of a field are missing, or the field that begins at the place breaks a rule.
 #[derive(Clone, Copy, Debug, PartialEq, Eq)]
 pub enum StateFault {
@@ -112,32 +90,6 @@ impl From<BitsFault> for StateFault {
 
     fn from(bits: BitsFault) -> StateFault {
         StateFault::Bits(bits)
-    }
-}
-
-impl StateFault {
-    pub fn number(self) -> u64
-        ensures { result ≡ (state_report self).number }
-    {
-        Report::from(self).number
-    }
-
-    pub fn layer(self) -> u64
-        ensures { result ≡ (state_report self).layer }
-    {
-        Report::from(self).layer
-    }
-
-    pub fn field(self) -> u64
-        ensures { result ≡ (state_report self).field }
-    {
-        Report::from(self).field
-    }
-
-    pub fn place(self) -> usize
-        ensures { result ≡ (state_report self).place }
-    {
-        Report::from(self).place
     }
 }
 
@@ -177,36 +129,6 @@ impl ArchiveFault {
             other => other,
         }
     }
-
-    pub fn number(self) -> u64
-        ensures { result ≡ (archive_report self).number }
-    {
-        Report::from(self).number
-    }
-
-    pub fn layer(self) -> u64
-        ensures { result ≡ (archive_report self).layer }
-    {
-        Report::from(self).layer
-    }
-
-    pub fn sheet(self) -> u64
-        ensures { result ≡ (archive_report self).sheet }
-    {
-        Report::from(self).sheet
-    }
-
-    pub fn field(self) -> u64
-        ensures { result ≡ (archive_report self).field }
-    {
-        Report::from(self).field
-    }
-
-    pub fn place(self) -> usize
-        ensures { result ≡ (archive_report self).place }
-    {
-        Report::from(self).place
-    }
 }
 
 // What a fault reports: the layer, the number of the fault, that of the state (0 for none), that of the field, and the place.
@@ -221,11 +143,11 @@ pub struct Report {
 
 impl Report {
     // A report that names no state of an archive.
-    fn new(layer: u64, number: u64, field: Field, place: usize) -> Report
-        ensures { result ≡ record { layer = layer; number = number; sheet = 0; field = field_number field; place = place } }
+    fn new(layer: Layer, number: u64, field: Field, place: usize) -> Report
+        ensures { result ≡ record { layer = layer_number layer; number = number; sheet = 0; field = field_number field; place = place } }
     {
         Report {
-            layer,
+            layer: layer as u64,
             number,
             sheet: 0,
             field: field.number(),
@@ -234,41 +156,85 @@ impl Report {
     }
 }
 
-impl From<BitsFault> for Report {
-    ghost from_gives = { λ f r. r ≡ bits_report f };
+// A fault of any layer.
+pub trait Fault: Copy {
+    ghost reported: { Self → Report };
 
-    fn from(fault: BitsFault) -> Report {
-        Report::new(BITS_LAYER, CUT_SHORT, fault.field, fault.place)
+    // What the fault reports.
+    fn report(self) -> Report
+        ensures { result ≡ reported self };
+
+    final fn layer(self) -> u64
+        ensures { result ≡ (reported self).layer }
+    {
+        self.report().layer
+    }
+
+    final fn number(self) -> u64
+        ensures { result ≡ (reported self).number }
+    {
+        self.report().number
+    }
+
+    final fn sheet(self) -> u64
+        ensures { result ≡ (reported self).sheet }
+    {
+        self.report().sheet
+    }
+
+    final fn field(self) -> u64
+        ensures { result ≡ (reported self).field }
+    {
+        self.report().field
+    }
+
+    final fn place(self) -> usize
+        ensures { result ≡ (reported self).place }
+    {
+        self.report().place
     }
 }
 
-impl From<StateFault> for Report {
-    ghost from_gives = { λ f r. r ≡ state_report f };
+impl Fault for BitsFault {
+    ghost reported = { bits_report };
 
-    fn from(fault: StateFault) -> Report {
-        match fault {
-            StateFault::Bits(fault) => Report::from(fault),
+    fn report(self) -> Report {
+        Report::new(Layer::Bits, Extent::CutShort as u64, self.field, self.place)
+    }
+}
+
+impl Fault for StateFault {
+    ghost reported = { state_report };
+
+    fn report(self) -> Report {
+        match self {
+            StateFault::Bits(fault) => fault.report(),
             StateFault::Broken { rule, field, place } => {
-                Report::new(STATE_LAYER, rule.number(), field, place)
+                Report::new(Layer::State, rule.number(), field, place)
             }
         }
     }
 }
 
-impl From<ArchiveFault> for Report {
-    ghost from_gives = { λ f r. r ≡ archive_report f };
+impl Fault for ArchiveFault {
+    ghost reported = { archive_report };
 
-    fn from(fault: ArchiveFault) -> Report {
-        match fault {
+    fn report(self) -> Report {
+        match self {
             ArchiveFault::State { sheet, fault } => Report {
                 sheet,
-                ..Report::from(fault)
+                ..fault.report()
             },
-            ArchiveFault::Short(fault) => Report::from(fault),
-            ArchiveFault::Overfull => Report::new(ARCHIVE_LAYER, OVERFULL, Field::Count, 0),
-            ArchiveFault::LeftOver { place } => {
-                Report::new(ARCHIVE_LAYER, LEFT_OVER, Field::Rest, place)
+            ArchiveFault::Short(fault) => fault.report(),
+            ArchiveFault::Overfull => {
+                Report::new(Layer::Archive, Extent::Overfull as u64, Field::Count, 0)
             }
+            ArchiveFault::LeftOver { place } => Report::new(
+                Layer::Archive,
+                Extent::LeftOver as u64,
+                Field::Rest,
+                place,
+            ),
         }
     }
 }

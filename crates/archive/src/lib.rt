@@ -11,3 +11,4 @@ mod layout;
 pub mod load;
 mod pivots;
 mod put;
+mod shape;

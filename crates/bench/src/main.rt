@@ -57,48 +57,41 @@ impl Tally {
         self.note(u64::from(residues.value().digit(1)));
         self.note(quads.value().word(0));
     }
-
-    // Does the work with a state and each of those after it.
-    fn pairs_of<F: Fn(&mut Tally, &StabilizerState, &StabilizerState)>(
-        &mut self,
-        work: &F,
-        t: &StabilizerState,
-        others: &[StabilizerState],
-    )
-        requires { F.IsAlwaysCallable work.now }
-    {
-        for s in others {
-            work(self, t, s);
-        }
-    }
-
-    // Does the work with each pair of states.
-    fn round<F: Fn(&mut Tally, &StabilizerState, &StabilizerState)>(
-        &mut self,
-        work: &F,
-        states: &[StabilizerState],
-    )
-        requires { F.IsAlwaysCallable work.now }
-    {
-        for (i, t) in states.iter().enumerate() {
-            self.pairs_of(work, t, &states[i + 1..]);
-        }
-    }
 }
 
-// Does so many rounds of the work.
-fn rounds<F: Fn(&mut Tally, &StabilizerState, &StabilizerState)>(
-    work: F,
-    count: u64,
-    states: &[StabilizerState],
-) -> Tally
-    requires { F.IsAlwaysCallable work }
-{
-    let mut tally = Tally::default();
-    for _ in 0..count {
-        tally.round(&work, states);
+// What is done with a pair of states.
+#[derive(Clone, Copy)]
+struct Work<F>(F);
+
+impl<F: Fn(&mut Tally, &StabilizerState, &StabilizerState)> Work<F> {
+    // Does it with a state and each of those after it.
+    fn pairs_of(&self, tally: &mut Tally, t: &StabilizerState, others: &[StabilizerState])
+        requires { F.IsAlwaysCallable self.now.0 }
+    {
+        for s in others {
+            (self.0)(tally, t, s);
+        }
     }
-    tally
+
+    // Does it with each pair of states.
+    fn round(&self, tally: &mut Tally, states: &[StabilizerState])
+        requires { F.IsAlwaysCallable self.now.0 }
+    {
+        for (i, t) in states.iter().enumerate() {
+            self.pairs_of(tally, t, &states[i + 1..]);
+        }
+    }
+
+    // Does so many rounds of it.
+    fn rounds(&self, count: u64, states: &[StabilizerState]) -> Tally
+        requires { F.IsAlwaysCallable self.now.0 }
+    {
+        let mut tally = Tally::default();
+        for _ in 0..count {
+            self.round(&mut tally, states);
+        }
+        tally
+    }
 }
 
 fn main(rt: HostRuntime) -> io::Result<()> {
@@ -112,8 +105,8 @@ fn main(rt: HostRuntime) -> io::Result<()> {
     rt.stdin().read_to_end(&mut archive)?;
     let tally = match load(rt.alloc(), &archive) {
         Ok(states) => match mode.as_ref().map(|word| word.as_str()) {
-            Some("overlap") => rounds(Tally::overlap, count, &states),
-            Some("sum") => rounds(Tally::sum, count, &states),
+            Some("overlap") => Work(Tally::overlap).rounds(count, &states),
+            Some("sum") => Work(Tally::sum).rounds(count, &states),
             _ => Tally::default(),
         },
         Err(_) => Tally::default(),

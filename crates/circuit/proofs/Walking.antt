@@ -1,8 +1,9 @@
 -- Runs made one call after another, with the gravest refusal that they meet.
 use Rattle.std.proofs.Common.{◌≡◌, ℕ, zero, suc, ◌<◌, Bool, true, false, cond, ◌||◌, eqb, List, [], ◌∷◌, ◌++◌, map, take, drop, reverse, Some, None, Option, sym, refl, ap, ◌∙◌, subst, ap₂, arith}
-use mathlib.Core.List.{map-append, reverse-cons}
+use mathlib.Core.List.{map-append, map-map, reverse-cons}
 use Rattle.std.proofs.lemmas.Iterator.{YieldsList, items_from_drains}
 use Rattle.std.proofs.lemmas.List.{take-map, drop-map}
+use Rattle.std.specs.Borrow.{Bor}
 use Rattle.std.specs.Ordering.{ord_max}
 use Rattle.cyclotomic.specs.Scalars.{Triple, nought, triple_of}
 use Rattle.cyclotomic.specs.declared.scalar.Scalar.{Scalar}
@@ -12,11 +13,10 @@ use Rattle.stabilizer.specs.Overlaps.{IsOverlap, sizes_number}
 use Rattle.stabilizer.specs.Paulis.{Pauli, pauli_of, text_number}
 use Rattle.stabilizer.specs.declared.gate.Gate.{Gate}
 use Rattle.stabilizer.specs.declared.state.StabilizerState.{StabilizerState}
-use Rattle.circuit.specs.Made.{call_of, lent_call}
+use Rattle.circuit.specs.Made.{call_of}
 use Rattle.circuit.specs.Runs.{Run, done, next, among, inverse, backwards, Division, answers, Worth, Valued, OneValue}
 use Rattle.circuit.specs.Splits.{Ran, Made, Divides, Comes, gravest}
 use Rattle.circuit.specs.declared.call.Call.{Call as Held}
-use Rattle.circuit.specs.declared.call.CallRef.{CallRef}
 use Rattle.circuit.specs.declared.division.Met.{Met}
 use Rattle.circuit.specs.declared.division.Met.TheVariants.{Neither, Impossible, Exhausted}
 use Rattle.circuit.specs.contracts.division.MetOrd.TheImpl.{cmp-value}
@@ -42,17 +42,15 @@ pub walked_none : (s : StabilizerState) → Ran [] s Neither s
 walked_none s = record { answers = []; run = done; gravest = refl }
 
 -- one call more, at the end of those that were made
-pub walked_more : (made : List CallRef) (c : CallRef) (s s' s'' : StabilizerState) (met : Met) (a : ℕ) → Ran (map lent_call made) s met s'
-    → Step (lent_call c) s' a s''
-    → Ran (map lent_call (made ++ (c ∷ []))) s (ord_max cmp-value.it met (gravest (eqb a 21) (eqb a 22))) s''
-walked_more made c s s' s'' met a h step =
-    subst (λ cs. Ran cs s (ord_max cmp-value.it met (gravest (eqb a 21) (eqb a 22))) s'') (sym (map-append lent_call made (c ∷ []))) (record {
-      answers = h.answers ++ (a ∷ []);
-      run = run_more h.run (lent_call c) a s'' step;
-      gravest = ap (λ m. ord_max cmp-value.it m (gravest (eqb a 21) (eqb a 22))) h.gravest
-          ∙ graver (among 21 h.answers) (among 22 h.answers) (eqb a 21) (eqb a 22)
-          ∙ ap₂ gravest (more 21) (more 22);
-    })
+pub walked_more : (made : List Call) (c : Call) (s s' s'' : StabilizerState) (met : Met) (a : ℕ) → Ran made s met s' → Step c s' a s''
+    → Ran (made ++ (c ∷ [])) s (ord_max cmp-value.it met (gravest (eqb a 21) (eqb a 22))) s''
+walked_more made c s s' s'' met a h step = record {
+  answers = h.answers ++ (a ∷ []);
+  run = run_more h.run c a s'' step;
+  gravest = ap (λ m. ord_max cmp-value.it m (gravest (eqb a 21) (eqb a 22))) h.gravest
+      ∙ graver (among 21 h.answers) (among 22 h.answers) (eqb a 21) (eqb a 22)
+      ∙ ap₂ gravest (more 21) (more 22);
+}
   where
     or-none : (p : Bool) → p || false ≡ p
     or-none true = refl
@@ -62,10 +60,12 @@ walked_more made c s s' s'' met a h step =
     more b = sym (among-append b h.answers (a ∷ []) ∙ ap (◌||◌ (among b h.answers)) (or-none (eqb a b)))
 
 -- the calls that were made are those that the iterator gives
-pub walked-all : {I : Type 0} {steps : I → Option CallRef → I → Type 0} {calls : I} {all : List Call} (s : StabilizerState) (met : Met)
-    (s' : StabilizerState) → Made steps calls s met s' → YieldsList steps lent_call calls all → Ran all s met s'
-walked-all s met s' (made, (u, (t, yields, last)), ran) y =
-    subst (λ cs. Ran cs s met s') (items_from_drains made (t, yields, λ _. (u, last)) y) ran
+pub walked-all : {I : Type 0} {steps : I → Option (Bor Held) → I → Type 0} {calls : I} {xs : List Held} (ideal : Held → Call)
+    (s : StabilizerState) (met : Met) (s' : StabilizerState) → Made steps ideal calls s met s' → YieldsList steps (λ c. c.now) calls xs
+    → Ran (map ideal xs) s met s'
+walked-all ideal s met s' (made, (u, (t, yields, last)), ran) y =
+    subst (λ cs. Ran cs s met s')
+    (sym (map-map ideal (λ c. c.now) made) ∙ ap (map ideal) (items_from_drains made (t, yields, λ _. (u, last)) y)) ran
 
 -- the calls of a slice from the last to the first, each inverted
 pub backwards-map : (xs : List Held) → map (λ x. inverse (call_of x)) (reverse xs) ≡ backwards (map call_of xs)

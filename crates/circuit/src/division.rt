@@ -1,12 +1,14 @@
 ghost use Rattle.std.specs.Prelude.{◌≡◌, map, ◌==◌};
 ghost use Rattle.std.specs.Iterator.{IsFinite};
 ghost use Rattle.cyclotomic.specs.Refusals.{answer_of};
+ghost use Rattle.stabilizer.specs.Calls.{Call as Ideal};
 ghost use Rattle.stabilizer.specs.Overlaps.{sizes_number};
 ghost use Rattle.circuit.specs.Made.{call_of};
 ghost use Rattle.circuit.specs.Runs.{OneValue};
-ghost use Rattle.circuit.specs.Splits.{Made, Divided, Divides, gravest};
+ghost use Rattle.circuit.specs.Splits.{Made, MakesAs, Divided, Divides, gravest};
+ghost use Rattle.circuit.specs.declared.call.Call.{Call as Held};
 
-use crate::call::{Call, CallRef};
+use crate::call::Call;
 use cyclotomic::refusal::Refusal;
 use cyclotomic::scalar::Scalar;
 use stabilizer::overlap::overlap;
@@ -62,20 +64,24 @@ fn divide(s: &mut StabilizerState, t: &mut StabilizerState, calls: &[Call], plac
     ensures { Divides (map call_of calls.now) place s.old t.old result s.new t.new }
 {
     let (before, after) = calls.split_at(place.min(calls.len() as u64) as usize);
-    let first = run(s, before.iter().map(|call| call.lent()));
-    let second = run(t, after.iter().rev().map(|call| call.lent().inverse()));
+    let first = run(s, before.iter(), Call::make);
+    let second = run(t, after.iter().rev(), Call::make_inverse);
     first.max(second)
 }
 
-// Makes the calls one after another.
-fn run<'a, I: Iterator<Item = CallRef<'a>>>(state: &mut StabilizerState, calls: I) -> Met
+// Makes the calls one after another, each as `make` does.
+fn run<'a, I, F>(state: &mut StabilizerState, calls: I, make: F) -> Met
+where
+    I: Iterator<Item = &'a Call>,
+    F: Fn(&Call, &mut StabilizerState) -> Result<(), Refusal>,
     requires can { I.can_next calls }
     requires ends { IsFinite (I.remaining calls) }
-    ensures { Made I.next_gives calls state.old result state.new }
+    requires callable { F.IsAlwaysCallable make }
+    ensures { (ideal : Held → Ideal) → MakesAs (F.post make) ideal → Made I.next_gives ideal calls state.old result state.new }
 {
     let mut met = Met::Neither;
     for call in calls {
-        met = met.max(Met::from(call.make(state)));
+        met = met.max(Met::from(make(call, state)));
     }
     met
 }

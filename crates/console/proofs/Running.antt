@@ -4,19 +4,23 @@ use Rattle.host.specs.Answers.{entry_number, Answered}
 use Rattle.stabilizer.specs.declared.state.StabilizerState.{StabilizerState}
 use Rattle.console.specs.Commands.{Enters}
 use Rattle.console.specs.Lines.{Does}
-use Rattle.console.specs.Sessions.{state_of, with_state, Becomes, Looks, Ran}
+use Rattle.console.specs.Sessions.{state_of, with_state, Looks, Ran, RanOn}
 use Rattle.console.specs.Words.{Names}
 use Rattle.console.specs.declared.answer.Answer.{Answer}
 use Rattle.console.specs.declared.answer.Answer.TheVariants.{Number}
 use Rattle.console.specs.declared.command.Command.{Command}
+use Rattle.console.specs.declared.command.Command.TheVariants.{OnState}
 use Rattle.console.specs.declared.command.Name.{Name}
 use Rattle.console.specs.declared.command.Operands.{Operands}
+use Rattle.console.specs.declared.command.StateCommand.{StateCommand}
 use Rattle.console.specs.declared.session.Session.{Session}
 
--- the state that a call left was put back under its name
-pub becomes : (name : Name) (R : StabilizerState → Answer → StabilizerState → Type 0) (x : Session)
-    (s s' : StabilizerState) (a : Answer) → s ≡ state_of x name → R s a s' → Becomes name R x a (with_state x name s')
-becomes name R x s s' a e h = (s', subst (λ z. R z a s') e h, refl)
+-- the state that a command left was put back under its name
+pub put-back : {E : Type 0} (r : Result Answer E) (name : Name) (command : StateCommand) (o o' : Operands) (x : Session)
+    (s s' : StabilizerState) → s ≡ state_of x name → IfOk r (λ a. RanOn command o s a o' s')
+    → IfOk r (λ a. Ran (OnState name command) o x a o' (with_state x name s'))
+put-back (Ok a) name command o o' x s s' e h = record { state = s'; by = subst (λ z. RanOn command o z a o' s') e h; whole = refl }
+put-back (Err e) name command o o' x s s' same h = h
 
 -- what the entry answered, by its number
 pub enters : (t s b b' : List ℕ) (n : ℕ) → n ≡ entry_number t s (length b) → (n ≡ 0 → Answered t s b')
@@ -32,7 +36,8 @@ enters t s b b' n e granted refused rest = record {
 pub does : {E : Type 0} (words : List ℕ) (r : Result Answer E) (command : Command) (o o' : Operands) (x x' : Session)
     → Names words command → IfOk r (λ a. Ran command o x a o' x') → (Looks command → x' ≡ x)
     → IfOk r (λ a. Does words x a o' x')
-does words (Ok a) command o o' x x' named ran looks = inr (command, named, o, ran, looks)
+does words (Ok a) command o o' x x' named ran looks =
+    inr (record { command = command; named = named; operands = o; ran = ran; looks = looks })
 does words (Err e) command o o' x x' named ran looks = ran
 
 -- what holds on success, by what it leads to

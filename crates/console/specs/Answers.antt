@@ -1,11 +1,12 @@
 -- What an answer says of what a call of a library answered.
-use Rattle.std.specs.Prelude.{◌≡◌, Ok, Err, Result, Some, None, Option}
+use Rattle.std.specs.Prelude.{◌≡◌, ℕ, Ok, Err, Result, Some, None, Option}
 use Rattle.archive.specs.Faults.{archive_report}
 use Rattle.archive.specs.declared.container.Denial.{Denial}
 use Rattle.archive.specs.declared.container.Denial.TheVariants.{Fault as OfArchive, Refused as OfCall}
 use Rattle.archive.specs.declared.fault.ArchiveFault.{ArchiveFault}
 use Rattle.archive.specs.declared.fault.Report.{Report}
 use Rattle.cyclotomic.specs.Modular.{Below, Quad, seventeen, quads}
+use Rattle.cyclotomic.specs.Refusals.{answer_of}
 use Rattle.cyclotomic.specs.Ring.{Ops}
 use Rattle.cyclotomic.specs.declared.refusal.Refusal.{Refusal}
 use Rattle.cyclotomic.specs.declared.scalar.Scalar.{Scalar}
@@ -47,8 +48,20 @@ denial_answer (OfArchive f) = fault_answer (archive_report f)
 denial_answer (OfCall e) = Refused e
 
 -- a is the answer to a call that came to something with P
-abbrev pub Answers : {A : Type 0} → (Result A Refusal → Answer) → (Result A Refusal → Type 0) → Answer → Type 0
-Answers {A} shown P a = (r : Result A Refusal) × (a ≡ shown r) × P r
+pub record Answers {A : Type 0} (shown : Result A Refusal → Answer) (P : Result A Refusal → Type 0) (a : Answer) : Type 0 where
+  pub result : Result A Refusal
+  pub answer : a ≡ shown result
+  pub holds : P result
+
+-- a call came to the number n, and to a value with P
+pub record Comes {A : Type 0} (n : ℕ) (P : Result A Refusal → Type 0) (r : Result A Refusal) : Type 0 where
+  pub number : answer_of r ≡ n
+  pub value : P r
+
+-- a is the answer a', and P holds
+pub record Said (a a' : Answer) (P : Type 0) : Type 0 where
+  pub answer : a ≡ a'
+  pub holds : P
 
 -- a value of the ring with a name is the element that f gives in every ring
 abbrev pub IsValue : RingName → RingValue → ((R : Type 0) → Ops R → R) → Type 0

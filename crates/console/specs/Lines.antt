@@ -23,11 +23,23 @@ abbrev pub IsSilent : List ℕ → Type 0
 IsSilent [] = Unit {0}
 IsSilent (c ∷ words) = c ≡ 35
 
--- the words cannot be read, or the first of them names a command
+-- the words cannot be read
+pub record Unread (x : Session) (a : Answer) (x' : Session) : Type 0 where
+  pub problem : Problem
+  pub answer : a ≡ Unreadable problem
+  pub kept : x' ≡ x
+
+-- the first of the words names a command, which was done
+pub record Obeyed (words : List ℕ) (x : Session) (a : Answer) (o' : Operands) (x' : Session) : Type 0 where
+  pub command : Command
+  pub named : Names words command
+  pub operands : Operands
+  pub ran : Ran command operands x a o' x'
+  pub looks : Looks command → x' ≡ x
+
+-- the one or the other
 abbrev pub Does : List ℕ → Session → Answer → Operands → Session → Type 0
-Does words x a o' x' =
-    ((p : Problem) × (a ≡ Unreadable p) × (x' ≡ x))
-    ⊎ ((command : Command) × Names words command × (o : Operands) × Ran command o x a o' x' × (Looks command → x' ≡ x))
+Does words x a o' x' = Unread x a x' ⊎ Obeyed words x a o' x'
 
 -- a line is answered: the text of the answer and a line feed are written, and the session is left as the answer says
 pub record Replied (words : List ℕ) (x x' : Session) (old new : Option (List ℕ)) : Type 0 where

@@ -9,6 +9,7 @@ use Rattle.listing.specs.Digits.{hex_text}
 use Rattle.listing.specs.Fields.{dimension_of, fields_text, space_text}
 use Rattle.listing.specs.Texts.{mark_text}
 use Rattle.quadratic.specs.declared.intersection.Intersection.{Intersection}
+use Rattle.quadratic.specs.Coordinates.{coordinates_text}
 use Rattle.console.specs.declared.answer.Answer.{Answer}
 use Rattle.console.specs.declared.answer.Answer.TheVariants.{Help, Done, Refused, Fault, Unreadable, Bytes, Length, Number, Fields}
 use Rattle.console.specs.declared.answer.Answer.TheVariants.{Scalar, Common, Mark, Aside, Coordinates, Total, Value, Count}
@@ -34,7 +35,7 @@ problem_text NoMemory = codes "there is no memory for these bytes"
 -- two digits of a residue; four words of sixteen
 abbrev pub value_text : RingValue → List ℕ
 value_text (Mod17 v) = residue_text v.residue
-value_text (Quad v) = words_text v.a0 v.a1 v.a2 v.a3
+value_text (Quad v) = words_text v.a0.0 v.a1.0 v.a2.0 v.a3.0
 
 -- an intersection of states of n qubits: its dimension and its space
 abbrev pub common_text : Intersection → ℕ → List ℕ
@@ -44,11 +45,6 @@ common_text x n =
 -- a number, and bytes behind it
 abbrev pub counted_text : ℕ → List ℕ → List ℕ
 counted_text n b = decimal n ++ (codes " " ++ hex_text b)
-
-abbrev pub coordinates_text : ℤ × ℤ × ℤ × ℤ → List ℕ
-coordinates_text q =
-    signed_decimal q.0
-    ++ (codes " " ++ (signed_decimal q.1 ++ (codes " " ++ (signed_decimal q.2 ++ (codes " " ++ signed_decimal q.3)))))
 
 abbrev pub total_text : ℕ → ℕ → RingValue → List ℕ
 total_text n count v = decimal n ++ (codes " " ++ (decimal count ++ (codes " " ++ value_text v)))
@@ -77,7 +73,7 @@ reply_text (Scalar x) b = triple_text (triple_of x)
 reply_text (Common c) b = common_text c.both c.qubits
 reply_text (Mark equal) b = mark_text equal
 reply_text Aside b = codes "aside"
-reply_text (Coordinates q) b = coordinates_text q
+reply_text (Coordinates q) b = coordinates_text q.a0 q.a1 q.a2 q.a3
 reply_text (Total n count v) b = total_text n count v
 reply_text (Value v) b = value_text v
 reply_text (Count n) b = decimal n

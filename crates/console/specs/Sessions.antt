@@ -8,12 +8,13 @@ use Rattle.console.specs.Commands.{ShowsSame, Shares, ShowsSum, ShowsCoordinates
 use Rattle.console.specs.declared.answer.Answer.{Answer}
 use Rattle.console.specs.declared.answer.Answer.TheVariants.{Help as ShowsHelp, Fields as ShowsFields}
 use Rattle.console.specs.declared.command.Command.{Command}
-use Rattle.console.specs.declared.command.Command.TheVariants.{Help, Open, Read, Take, Write, WriteInto, Fields, Amplitude}
-use Rattle.console.specs.declared.command.Command.TheVariants.{Gate, Project, Split, Overlap, Same, Intersect}
+use Rattle.console.specs.declared.command.Command.TheVariants.{Help, OnState, Split, Overlap, Same, Intersect}
 use Rattle.console.specs.declared.command.Command.TheVariants.{Sum, Coordinates, Total, Embed, Check, View, Host}
 use Rattle.console.specs.declared.command.Name.{Name}
 use Rattle.console.specs.declared.command.Name.TheVariants.{S as NamedS, T as NamedT}
 use Rattle.console.specs.declared.command.Operands.{Operands}
+use Rattle.console.specs.declared.command.StateCommand.{StateCommand}
+use Rattle.console.specs.declared.command.StateCommand.TheVariants.{Open, Read, Take, Write, WriteInto, Fields, Amplitude, Gate, Project}
 use Rattle.console.specs.declared.session.Session.{Session}
 
 -- the state with a name
@@ -32,36 +33,48 @@ pub record Fresh (x : Session) : Type 0 where
   pub t : Opened x.t 1
   pub last : x.last.space ≡ None
 
--- a command that only looks
+-- a command that only looks, at a state or at the session
+abbrev pub LooksAt : StateCommand → Type 0
+LooksAt (Open n) = ⊥
+LooksAt Read = ⊥
+LooksAt (Take i) = ⊥
+LooksAt (Gate kind j l) = ⊥
+LooksAt Project = ⊥
+LooksAt command = Unit {0}
+
 abbrev pub Looks : Command → Type 0
-Looks (Open name n) = ⊥
-Looks (Read name) = ⊥
-Looks (Take name i) = ⊥
-Looks (Gate name kind j l) = ⊥
-Looks (Project name) = ⊥
+Looks (OnState name command) = LooksAt command
 Looks Intersect = ⊥
 Looks command = Unit {0}
 
 -- the state with a name became another one by R, and nothing else changed
-abbrev pub Becomes : Name → (StabilizerState → Answer → StabilizerState → Type 0) → Session → Answer → Session → Type 0
-Becomes name R x a x' = (state : StabilizerState) × R (state_of x name) a state × (x' ≡ with_state x name state)
+pub record Becomes (name : Name) (R : StabilizerState → Answer → StabilizerState → Type 0) (x : Session) (a : Answer)
+    (x' : Session) : Type 0 where
+  pub state : StabilizerState
+  pub by : R (state_of x name) a state
+  pub whole : x' ≡ with_state x name state
 
--- the last intersection became another one by R, and nothing else changed
-abbrev pub Leaves : Session → Answer → Session → Type 0
-Leaves x a x' = Shares x.t x.s x.last a x'.last × (x' ≡ record x { last = x'.last })
+-- the last intersection became another one, and nothing else changed
+pub record Leaves (x : Session) (a : Answer) (x' : Session) : Type 0 where
+  pub shared : Shares x.t x.s x.last a x'.last
+  pub whole : x' ≡ record x { last = x'.last }
 
--- a command with operands o on the session x answers a, and leaves o' and x'; what a command that only looks leaves is x
+-- a command with operands o on the state s answers a, and leaves o' and s'; what a command that only looks leaves is s
+abbrev pub RanOn : StateCommand → Operands → StabilizerState → Answer → Operands → StabilizerState → Type 0
+RanOn (Open n) o s a o' s' = Opens n s a s'
+RanOn Read o s a o' s' = Reads (vec_items o.first) s a s'
+RanOn (Take i) o s a o' s' = Takes (vec_items o.first) i s a s'
+RanOn Write o s a o' s' = Writes s a (vec_items o'.buffer)
+RanOn WriteInto o s a o' s' = WritesInto s a (vec_items o.buffer) (vec_items o'.buffer)
+RanOn Fields o s a o' s' = a ≡ ShowsFields s
+RanOn (Amplitude y) o s a o' s' = ShowsAmplitude y s a
+RanOn (Gate kind j l) o s a o' s' = Gates kind j l s a s'
+RanOn Project o s a o' s' = Projects (vec_items o.first) s a s'
+
+-- the same on the session x, which becomes x'
 abbrev pub Ran : Command → Operands → Session → Answer → Operands → Session → Type 0
 Ran Help o x a o' x' = a ≡ ShowsHelp
-Ran (Open name n) o x a o' x' = Becomes name (Opens n) x a x'
-Ran (Read name) o x a o' x' = Becomes name (Reads (vec_items o.first)) x a x'
-Ran (Take name i) o x a o' x' = Becomes name (Takes (vec_items o.first) i) x a x'
-Ran (Write name) o x a o' x' = Writes (state_of x name) a (vec_items o'.buffer)
-Ran (WriteInto name) o x a o' x' = WritesInto (state_of x name) a (vec_items o.buffer) (vec_items o'.buffer)
-Ran (Fields name) o x a o' x' = a ≡ ShowsFields (state_of x name)
-Ran (Amplitude name y) o x a o' x' = ShowsAmplitude y (state_of x name) a
-Ran (Gate name kind j l) o x a o' x' = Becomes name (Gates kind j l) x a x'
-Ran (Project name) o x a o' x' = Becomes name (Projects (vec_items o.first)) x a x'
+Ran (OnState name command) o x a o' x' = Becomes name (λ s b s'. RanOn command o s b o' s') x a x'
 Ran (Split place) o x a o' x' = ShowsSplit (map call_of (vec_items o.calls)) place x.s x.t a
 Ran Overlap o x a o' x' = ShowsOverlap x.t x.s a
 Ran Same o x a o' x' = ShowsSame x.t x.s a

@@ -2,18 +2,9 @@
 use Rattle.std.specs.List.{before_first}
 use Rattle.std.specs.Prelude.{◌≡◌, ℕ, cond, List, [], ◌∷◌, codes, ◌==◌}
 use Rattle.console.specs.declared.command.Command.{Command}
-use Rattle.console.specs.declared.command.Command.TheVariants.{Help, Open, Read, Take, Write, WriteInto, Fields, Amplitude}
-use Rattle.console.specs.declared.command.Command.TheVariants.{Gate, Project, Split, Overlap, Same, Intersect}
+use Rattle.console.specs.declared.command.Command.TheVariants.{Help, OnState, Split, Overlap, Same, Intersect}
 use Rattle.console.specs.declared.command.Command.TheVariants.{Sum, Coordinates, Total, Embed, Check, View, Host}
-use Rattle.console.specs.declared.command.BytesVerb.TheVariants.{Check as ToCheck, View as ToView, Host as ToHost}
-use Rattle.console.specs.declared.command.StateVerb.TheVariants.{Open as ToOpen, Read as ToRead, Take as ToTake, Write as ToWrite}
-use Rattle.console.specs.declared.command.StateVerb.TheVariants.{Fields as ToFields, Amplitude as ToAmplitude, Gate as ToGate}
-use Rattle.console.specs.declared.command.StateVerb.TheVariants.{Project as ToProject}
-use Rattle.console.specs.declared.command.Verb.{Verb}
-use Rattle.console.specs.declared.command.Verb.TheVariants.{OnState, OnBytes, Help as ToHelp, Split as ToSplit}
-use Rattle.console.specs.declared.command.Verb.TheVariants.{Overlap as ToOverlap, Same as ToSame, Intersect as ToIntersect}
-use Rattle.console.specs.declared.command.Verb.TheVariants.{Sum as ToSum, Coordinates as ToCoordinates}
-use Rattle.console.specs.declared.command.Verb.TheVariants.{Total as ToTotal, Embed as ToEmbed}
+use Rattle.console.specs.declared.command.StateCommand.TheVariants.{Open, Read, Take, Write, WriteInto, Fields, Amplitude, Gate, Project}
 
 -- a line without the blanks at its start
 abbrev pub trimmed : List ℕ → List ℕ
@@ -27,52 +18,30 @@ before end line = before_first (λ c. c == end) line
 abbrev pub first_word : List ℕ → List ℕ
 first_word line = before 32 (trimmed line)
 
-abbrev pub verb_text : Verb → List ℕ
-verb_text ToHelp = codes "help"
-verb_text (OnState ToOpen) = codes "open"
-verb_text (OnState ToRead) = codes "read"
-verb_text (OnState ToTake) = codes "take"
-verb_text (OnState ToWrite) = codes "write"
-verb_text (OnState ToFields) = codes "fields"
-verb_text (OnState ToAmplitude) = codes "amplitude"
-verb_text (OnState ToGate) = codes "gate"
-verb_text (OnState ToProject) = codes "project"
-verb_text ToSplit = codes "split"
-verb_text ToOverlap = codes "overlap"
-verb_text ToSame = codes "same"
-verb_text ToIntersect = codes "intersect"
-verb_text ToSum = codes "sum"
-verb_text ToCoordinates = codes "coordinates"
-verb_text ToTotal = codes "total"
-verb_text ToEmbed = codes "embed"
-verb_text (OnBytes ToCheck) = codes "check"
-verb_text (OnBytes ToView) = codes "view"
-verb_text (OnBytes ToHost) = codes "host"
-
 -- the first word of a command
-abbrev pub verb_of : Command → Verb
-verb_of Help = ToHelp
-verb_of (Open name n) = OnState ToOpen
-verb_of (Read name) = OnState ToRead
-verb_of (Take name i) = OnState ToTake
-verb_of (Write name) = OnState ToWrite
-verb_of (WriteInto name) = OnState ToWrite
-verb_of (Fields name) = OnState ToFields
-verb_of (Amplitude name y) = OnState ToAmplitude
-verb_of (Gate name kind j l) = OnState ToGate
-verb_of (Project name) = OnState ToProject
-verb_of (Split place) = ToSplit
-verb_of Overlap = ToOverlap
-verb_of Same = ToSame
-verb_of Intersect = ToIntersect
-verb_of Sum = ToSum
-verb_of Coordinates = ToCoordinates
-verb_of (Total ring times) = ToTotal
-verb_of (Embed ring x) = ToEmbed
-verb_of Check = OnBytes ToCheck
-verb_of (View i) = OnBytes ToView
-verb_of Host = OnBytes ToHost
+abbrev pub verb_text : Command → List ℕ
+verb_text Help = codes "help"
+verb_text (OnState name (Open n)) = codes "open"
+verb_text (OnState name Read) = codes "read"
+verb_text (OnState name (Take i)) = codes "take"
+verb_text (OnState name Write) = codes "write"
+verb_text (OnState name WriteInto) = codes "write"
+verb_text (OnState name Fields) = codes "fields"
+verb_text (OnState name (Amplitude y)) = codes "amplitude"
+verb_text (OnState name (Gate kind j l)) = codes "gate"
+verb_text (OnState name Project) = codes "project"
+verb_text (Split place) = codes "split"
+verb_text Overlap = codes "overlap"
+verb_text Same = codes "same"
+verb_text Intersect = codes "intersect"
+verb_text Sum = codes "sum"
+verb_text Coordinates = codes "coordinates"
+verb_text (Total ring times) = codes "total"
+verb_text (Embed ring x) = codes "embed"
+verb_text Check = codes "check"
+verb_text (View i) = codes "view"
+verb_text Host = codes "host"
 
 -- the first word of a line names a command
 abbrev pub Names : List ℕ → Command → Type 0
-Names line command = first_word line ≡ verb_text (verb_of command)
+Names line command = first_word line ≡ verb_text command

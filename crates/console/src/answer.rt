@@ -7,14 +7,16 @@ ghost use Rattle.console.specs.declared.answer.RingValue.TheVariants.{Mod17 as R
 
 use crate::problem::Problem;
 use archive::container::Denial;
-use archive::fault::{ArchiveFault, Report, StateFault};
+use archive::fault::{ArchiveFault, Fault, Report, StateFault};
 use cyclotomic::mod17::Mod17;
 use cyclotomic::quads::Cyclotomic64;
 use cyclotomic::refusal::Refusal;
 use cyclotomic::scalar::Scalar;
+use listing::comparison::Mark;
 use listing::fields::FieldsText;
 use listing::hex::HexBytes;
 use listing::space::SpaceText;
+use quadratic::coordinates::Coordinates;
 use quadratic::intersection::Intersection;
 use stabilizer::state::StabilizerState;
 use std::fmt;
@@ -93,8 +95,8 @@ pub enum Answer {
     Common(Common),
     Mark(bool),
     Aside,
-    // a0 to a3, as the library answers them
-    Coordinates((i64, i64, i64, i64)),
+    Coordinates(Coordinates),
+    // the number is what the line prints: 0 where the string was added
     Total {
         number: u64,
         count: u64,
@@ -140,7 +142,7 @@ impl From<StateFault> for Answer {
     ghost from_gives = { λ f a. a ≡ fault_answer (state_report f) };
 
     fn from(fault: StateFault) -> Answer {
-        Answer::Fault(Report::from(fault))
+        Answer::Fault(fault.report())
     }
 }
 
@@ -148,7 +150,7 @@ impl From<ArchiveFault> for Answer {
     ghost from_gives = { λ f a. a ≡ fault_answer (archive_report f) };
 
     fn from(fault: ArchiveFault) -> Answer {
-        Answer::Fault(Report::from(fault))
+        Answer::Fault(fault.report())
     }
 }
 
@@ -205,9 +207,9 @@ impl fmt::Display for Reply<'_> {
             Answer::Fields(state) => write!(f, "{}", FieldsText(&state)),
             Answer::Scalar(scalar) => write!(f, "{scalar}"),
             Answer::Common(common) => write!(f, "{common}"),
-            Answer::Mark(equal) => f.write_str(if equal { "=" } else { "." }),
+            Answer::Mark(equal) => write!(f, "{}", Mark(equal)),
             Answer::Aside => f.write_str("aside"),
-            Answer::Coordinates((a0, a1, a2, a3)) => write!(f, "{a0} {a1} {a2} {a3}"),
+            Answer::Coordinates(coordinates) => write!(f, "{coordinates}"),
             Answer::Total {
                 number,
                 count,

@@ -9,10 +9,8 @@ pub(crate) fn read_calls(word: &[u8], out: &mut Vec<Call>) -> Result<(), Problem
     if let [b'-'] = word {
         return Ok(());
     }
-    for call in word.split(|byte| *byte == b';') {
-        push_call(call, out)?;
-    }
-    Ok(())
+    word.split(|byte| *byte == b';')
+        .try_for_each(|call| push_call(call, out))
 }
 
 // One call more: `g:KIND:J:L` for a gate, and `p:TEXT` for a projection.

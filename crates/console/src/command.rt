@@ -1,6 +1,5 @@
-ghost use Rattle.std.specs.Prelude.{◌≡◌, IfOk};
-ghost use Rattle.console.specs.Words.{verb_text, verb_of, Names};
-ghost use Rattle.console.specs.declared.command.Verb.TheVariants.{OnBytes, OnState, Split as ToSplit, Total as ToTotal, Embed as ToEmbed};
+ghost use Rattle.std.specs.Prelude.{◌≡◌, IfOk, codes};
+ghost use Rattle.console.specs.Words.{verb_text, Names};
 
 use crate::calls;
 use crate::problem::Problem;
@@ -51,60 +50,33 @@ impl TryFrom<&[u8]> for RingName {
 #[derive(Clone, Copy)]
 pub enum Command {
     Help,
-    Open {
-        name: Name,
-        qubits: u64,
-    },
-    Read {
-        name: Name,
-    },
-    Take {
-        name: Name,
-        index: u64,
-    },
-    Write {
-        name: Name,
-    },
-    WriteInto {
-        name: Name,
-    },
-    Fields {
-        name: Name,
-    },
-    Amplitude {
-        name: Name,
-        string: u64,
-    },
-    Gate {
-        name: Name,
-        kind: u64,
-        first: u64,
-        second: u64,
-    },
-    Project {
-        name: Name,
-    },
-    Split {
-        place: u64,
-    },
+    OnState(Name, StateCommand),
+    Split { place: u64 },
     Overlap,
     Same,
     Intersect,
     Sum,
     Coordinates,
-    Total {
-        ring: RingName,
-        times: u64,
-    },
-    Embed {
-        ring: RingName,
-        scalar: Scalar,
-    },
+    Total { ring: RingName, times: u64 },
+    Embed { ring: RingName, scalar: Scalar },
     Check,
-    View {
-        index: u64,
-    },
+    View { index: u64 },
     Host,
+}
+
+// What is asked for of one state.
+#[derive(Clone, Copy)]
+pub enum StateCommand {
+    Open { qubits: u64 },
+    Read,
+    Take { index: u64 },
+    Write,
+    WriteInto,
+    Fields,
+    Amplitude { string: u64 },
+    // kind, first and second qubit are the three numbers of a public call, any of which may be no gate's or qubit's
+    Gate { kind: u64, first: u64, second: u64 },
+    Project,
 }
 
 // The bytes of a line: what is read, in the first or in the first two, and the buffer that an answer is written into; and its calls.
@@ -128,207 +100,148 @@ impl Operands {
     }
 }
 
-// The first word of a command.
-#[derive(Clone, Copy)]
-enum Verb {
-    Help,
-    OnState(StateVerb),
-    Split,
-    Overlap,
-    Same,
-    Intersect,
-    Sum,
-    Coordinates,
-    Total,
-    Embed,
-    OnBytes(BytesVerb),
-}
-
-// That of a command on the state with a name.
-#[derive(Clone, Copy)]
-enum StateVerb {
-    Open,
-    Read,
-    Take,
-    Write,
-    Fields,
-    Amplitude,
-    Gate,
-    Project,
-}
-
-// That of a command on bytes alone.
-#[derive(Clone, Copy)]
-enum BytesVerb {
-    Check,
-    View,
-    Host,
-}
-
-impl TryFrom<&[u8]> for Verb {
-    type Error = Problem;
-
-    ghost try_from_gives = { λ word r. IfOk r (λ v. word.now ≡ verb_text v) };
-
-    fn try_from(word: &[u8]) -> Result<Verb, Problem> {
-        match word {
-            b"help" => Ok(Verb::Help),
-            b"open" => Ok(Verb::OnState(StateVerb::Open)),
-            b"read" => Ok(Verb::OnState(StateVerb::Read)),
-            b"take" => Ok(Verb::OnState(StateVerb::Take)),
-            b"write" => Ok(Verb::OnState(StateVerb::Write)),
-            b"fields" => Ok(Verb::OnState(StateVerb::Fields)),
-            b"amplitude" => Ok(Verb::OnState(StateVerb::Amplitude)),
-            b"gate" => Ok(Verb::OnState(StateVerb::Gate)),
-            b"project" => Ok(Verb::OnState(StateVerb::Project)),
-            b"split" => Ok(Verb::Split),
-            b"overlap" => Ok(Verb::Overlap),
-            b"same" => Ok(Verb::Same),
-            b"intersect" => Ok(Verb::Intersect),
-            b"sum" => Ok(Verb::Sum),
-            b"coordinates" => Ok(Verb::Coordinates),
-            b"total" => Ok(Verb::Total),
-            b"embed" => Ok(Verb::Embed),
-            b"check" => Ok(Verb::OnBytes(BytesVerb::Check)),
-            b"view" => Ok(Verb::OnBytes(BytesVerb::View)),
-            b"host" => Ok(Verb::OnBytes(BytesVerb::Host)),
-            _ => Err(Problem::UnknownCommand),
-        }
-    }
-}
-
 // The command of a line; its bytes go into the operands.
 pub(crate) fn parse(line: &[u8], operands: &mut Operands) -> Result<Command, Problem>
     ensures { IfOk result (Names line.now) }
 {
     let mut words = Words::new(line);
-    let verb = Verb::try_from(words.word()?)?;
+    let verb = words.word()?;
     let command = parse_rest(verb, &mut words, operands)?;
     words.end()?;
     Ok(command)
 }
 
-// The command with a first word, of the words after it.
+// The command with a first word, of the words after it. Words and operands are two parameters: a struct of them would be made for a line and
+// taken apart in it.
 fn parse_rest(
-    verb: Verb,
+    verb: &[u8],
     words: &mut Words<'_>,
     operands: &mut Operands,
 ) -> Result<Command, Problem>
-    ensures { IfOk result (λ c. verb_of c ≡ verb) }
+    ensures { IfOk result (λ c. verb.now ≡ verb_text c) }
 {
     match verb {
-        Verb::Help => Ok(Command::Help),
-        Verb::Overlap => Ok(Command::Overlap),
-        Verb::Same => Ok(Command::Same),
-        Verb::Intersect => Ok(Command::Intersect),
-        Verb::Sum => Ok(Command::Sum),
-        Verb::Coordinates => Ok(Command::Coordinates),
-        Verb::Split => parse_split(words, operands),
-        Verb::Total => parse_total(words),
-        Verb::Embed => parse_embed(words),
-        Verb::OnBytes(verb) => parse_bytes(verb, words, operands),
-        Verb::OnState(verb) => {
-            let name = Name::try_from(words.word()?)?;
-            parse_state(verb, name, words, operands)
+        b"help" => Ok(Command::Help),
+        b"overlap" => Ok(Command::Overlap),
+        b"same" => Ok(Command::Same),
+        b"intersect" => Ok(Command::Intersect),
+        b"sum" => Ok(Command::Sum),
+        b"coordinates" => Ok(Command::Coordinates),
+        b"split" => {
+            let place = words.number()?;
+            calls::read_calls(words.word()?, &mut operands.calls)?;
+            Ok(Command::Split { place })
         }
+        b"total" => {
+            let ring = words.named()?;
+            let times = words.number()?;
+            Ok(Command::Total { ring, times })
+        }
+        b"embed" => {
+            let ring = words.named()?;
+            let scalar = words.scalar()?;
+            Ok(Command::Embed { ring, scalar })
+        }
+        _ => parse_on_state(verb, words, operands),
     }
 }
 
-// The command on the state with a name.
-fn parse_state(
-    verb: StateVerb,
-    name: Name,
+// The same, of a command on a state or on bytes.
+fn parse_on_state(
+    verb: &[u8],
     words: &mut Words<'_>,
     operands: &mut Operands,
 ) -> Result<Command, Problem>
-    ensures { IfOk result (λ c. verb_of c ≡ OnState verb) }
+    ensures { IfOk result (λ c. verb.now ≡ verb_text c) }
 {
     match verb {
-        StateVerb::Open => Ok(Command::Open {
-            name,
-            qubits: words.number()?,
-        }),
-        StateVerb::Fields => Ok(Command::Fields { name }),
-        StateVerb::Amplitude => Ok(Command::Amplitude {
-            name,
-            string: words.number()?,
-        }),
-        StateVerb::Gate => Ok(Command::Gate {
-            name,
-            kind: words.number()?,
-            first: words.number()?,
-            second: words.number()?,
-        }),
-        StateVerb::Project => {
+        b"open" => {
+            let name = words.named()?;
+            let qubits = words.number()?;
+            Ok(Command::OnState(name, StateCommand::Open { qubits }))
+        }
+        b"fields" => Ok(Command::OnState(words.named()?, StateCommand::Fields)),
+        b"amplitude" => {
+            let name = words.named()?;
+            let string = words.number()?;
+            Ok(Command::OnState(name, StateCommand::Amplitude { string }))
+        }
+        b"gate" => parse_gate(words),
+        b"project" => {
+            let name = words.named()?;
             calls::read_text(words.word()?, &mut operands.first)?;
-            Ok(Command::Project { name })
+            Ok(Command::OnState(name, StateCommand::Project))
         }
-        StateVerb::Read => {
+        b"read" => {
+            let name = words.named()?;
             words.bytes(&mut operands.first)?;
-            Ok(Command::Read { name })
+            Ok(Command::OnState(name, StateCommand::Read))
         }
-        StateVerb::Take => {
-            words.bytes(&mut operands.first)?;
-            Ok(Command::Take {
-                name,
-                index: words.number()?,
-            })
-        }
-        StateVerb::Write => {
-            if words.is_empty() {
-                return Ok(Command::Write { name });
-            }
-            words.bytes(&mut operands.buffer)?;
-            Ok(Command::WriteInto { name })
-        }
+        b"take" => parse_take(words, operands),
+        b"write" => parse_write(words, operands),
+        _ => parse_bytes(verb, words, operands),
     }
 }
 
-// The command on bytes alone.
+fn parse_gate(words: &mut Words<'_>) -> Result<Command, Problem>
+    ensures { IfOk result (λ c. codes "gate" ≡ verb_text c) }
+{
+    let name = words.named()?;
+    let kind = words.number()?;
+    let first = words.number()?;
+    let second = words.number()?;
+    let gate = StateCommand::Gate {
+        kind,
+        first,
+        second,
+    };
+    Ok(Command::OnState(name, gate))
+}
+
+fn parse_take(words: &mut Words<'_>, operands: &mut Operands) -> Result<Command, Problem>
+    ensures { IfOk result (λ c. codes "take" ≡ verb_text c) }
+{
+    let name = words.named()?;
+    words.bytes(&mut operands.first)?;
+    let index = words.number()?;
+    Ok(Command::OnState(name, StateCommand::Take { index }))
+}
+
+fn parse_write(words: &mut Words<'_>, operands: &mut Operands) -> Result<Command, Problem>
+    ensures { IfOk result (λ c. codes "write" ≡ verb_text c) }
+{
+    let name = words.named()?;
+    if words.is_empty() {
+        return Ok(Command::OnState(name, StateCommand::Write));
+    }
+    words.bytes(&mut operands.buffer)?;
+    Ok(Command::OnState(name, StateCommand::WriteInto))
+}
+
+// The same, of a command on bytes alone.
 fn parse_bytes(
-    verb: BytesVerb,
+    verb: &[u8],
     words: &mut Words<'_>,
     operands: &mut Operands,
 ) -> Result<Command, Problem>
-    ensures { IfOk result (λ c. verb_of c ≡ OnBytes verb) }
+    ensures { IfOk result (λ c. verb.now ≡ verb_text c) }
 {
-    words.bytes(&mut operands.first)?;
     match verb {
-        BytesVerb::Check => Ok(Command::Check),
-        BytesVerb::View => Ok(Command::View {
-            index: words.number()?,
-        }),
-        BytesVerb::Host => {
+        b"check" => {
+            words.bytes(&mut operands.first)?;
+            Ok(Command::Check)
+        }
+        b"view" => {
+            words.bytes(&mut operands.first)?;
+            let index = words.number()?;
+            Ok(Command::View { index })
+        }
+        b"host" => {
+            words.bytes(&mut operands.first)?;
             words.bytes(&mut operands.second)?;
             words.bytes(&mut operands.buffer)?;
             Ok(Command::Host)
         }
+        _ => Err(Problem::UnknownCommand),
     }
-}
-
-fn parse_split(words: &mut Words<'_>, operands: &mut Operands) -> Result<Command, Problem>
-    ensures { IfOk result (λ c. verb_of c ≡ ToSplit) }
-{
-    let place = words.number()?;
-    calls::read_calls(words.word()?, &mut operands.calls)?;
-    Ok(Command::Split { place })
-}
-
-fn parse_total(words: &mut Words<'_>) -> Result<Command, Problem>
-    ensures { IfOk result (λ c. verb_of c ≡ ToTotal) }
-{
-    let ring = RingName::try_from(words.word()?)?;
-    let times = words.number()?;
-    Ok(Command::Total { ring, times })
-}
-
-fn parse_embed(words: &mut Words<'_>) -> Result<Command, Problem>
-    ensures { IfOk result (λ c. verb_of c ≡ ToEmbed) }
-{
-    let ring = RingName::try_from(words.word()?)?;
-    let epsilon = words.number()?;
-    let power = words.number()?;
-    let turn = words.number()?;
-    let scalar = Scalar::new(epsilon, power, turn).ok_or(Problem::NoScalar)?;
-    Ok(Command::Embed { ring, scalar })
 }

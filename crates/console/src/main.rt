@@ -65,7 +65,7 @@ fn answer_line<O: Write>(
     }
 }
 
-// Does what a line asks for.
+// Does what a line asks for. The answer of `run` is handed on, and `kept` with it: the clause is the promise.
 fn answer_of(
     session: &mut Session,
     operands: &mut Operands,
@@ -86,9 +86,7 @@ fn without_end(line: &[u8]) -> &[u8]
     ensures { result.now ≡ words_of line.now }
 {
     match line {
-        [text @ .., b'\r', b'\n'] => text,
-        [text @ .., b'\n'] => text,
-        [text @ .., b'\r'] => text,
+        [text @ .., b'\r', b'\n'] | [text @ .., b'\n'] | [text @ .., b'\r'] => text,
         text => text,
     }
 }

@@ -1,16 +1,14 @@
-ghost use Rattle.std.specs.Prelude.{◌≡◌, IfOk, OnErr, map};
+ghost use Rattle.std.specs.Prelude.{◌≡◌, IfOk, OnErr};
 ghost use Rattle.std.specs.Borrow.{sem};
-ghost use Rattle.circuit.specs.Made.{call_of};
 ghost use Rattle.console.specs.Lending.{LendsState};
-ghost use Rattle.console.specs.Sessions.{state_of, Fresh, Looks, Leaves, Ran};
+ghost use Rattle.console.specs.Sessions.{state_of, Fresh, Looks, LooksAt, Leaves, Ran, RanOn};
 ghost use Rattle.console.specs.Answers.{Denies};
-ghost use Rattle.console.specs.Commands.{Opens, Gates, Projects, Reads, Takes, Writes, WritesInto, ShowsAmplitude, ShowsOverlap, ShowsSplit};
+ghost use Rattle.console.specs.Commands.{Writes, WritesInto};
 ghost use Rattle.console.specs.Commands.{ShowsTotal, ShowsTotalIn, Embeds, EmbedsIn, Checks, Views};
 
 use crate::answer::{Answer, Common, RingValue};
-use crate::command::{Command, Name, Operands, RingName};
+use crate::command::{Command, Name, Operands, RingName, StateCommand};
 use archive::{codec, container};
-use circuit::call::Call;
 use circuit::division::split;
 use cyclotomic::embedding::embed;
 use cyclotomic::mod17::Mod17;
@@ -49,7 +47,7 @@ impl Session {
         }
     }
 
-    // Does what a command asks for.
+    // Does what a command asks for. That a denial changes nothing (`kept`) is handed on from `run_on` and `intersect`, and is the promise.
     pub(crate) fn run(
         &mut self,
         command: Command,
@@ -62,22 +60,14 @@ impl Session {
     {
         match command {
             Command::Help => Ok(Answer::Help),
-            Command::Open { name, qubits } => Ok(open(self.named_mut(name), qubits)),
-            Command::Read { name } => Ok(read(self.named_mut(name), &operands.first)),
-            Command::Take { name, index } => Ok(take(self.named_mut(name), &operands.first, index)),
-            Command::Write { name } => write(self.named(name), &mut operands.buffer),
-            Command::WriteInto { name } => Ok(write_into(self.named(name), &mut operands.buffer)),
-            Command::Fields { name } => Ok(Answer::Fields(*self.named(name))),
-            Command::Amplitude { name, string } => Ok(amplitude(self.named(name), string)),
-            Command::Gate {
-                name,
-                kind,
-                first,
-                second,
-            } => Ok(gate(self.named_mut(name), kind, first, second)),
-            Command::Project { name } => Ok(project(self.named_mut(name), &operands.first)),
-            Command::Split { place } => Ok(self.split(&operands.calls, place)),
-            Command::Overlap => Ok(self.overlap()),
+            Command::OnState(name, command) => run_on(self.named_mut(name), command, operands),
+            Command::Split { place } => Ok(Answer::from(split(
+                &self.s,
+                &self.t,
+                &operands.calls,
+                place,
+            ))),
+            Command::Overlap => Ok(Answer::from(overlap(&self.t, &self.s))),
             Command::Same => Ok(Answer::Mark(self.t.same(&self.s))),
             Command::Intersect => Ok(self.intersect()),
             Command::Sum => Ok(Answer::Scalar(exponential_sum(&self.last))),
@@ -94,17 +84,7 @@ impl Session {
         }
     }
 
-    // The state with a name.
-    fn named(&self, name: Name) -> &StabilizerState
-        ensures { result.now ≡ state_of self.now name }
-    {
-        match name {
-            Name::S => &self.s,
-            Name::T => &self.t,
-        }
-    }
-
-    // The same, to be changed: it is put back in its place.
+    // The state with a name, to be changed: it is put back in its place.
     fn named_mut(&mut self, name: Name) -> &mut StabilizerState
         ensures* lent { sem 𝓛 (LendsState self.entry name result) }
         ensures value { result.now ≡ state_of self.old name }
@@ -115,18 +95,7 @@ impl Session {
         }
     }
 
-    fn split(&self, calls: &[Call], place: u64) -> Answer
-        ensures { ShowsSplit (map call_of calls.now) place self.now.s self.now.t result }
-    {
-        Answer::from(split(&self.s, &self.t, calls, place))
-    }
-
-    fn overlap(&self) -> Answer
-        ensures { ShowsOverlap self.now.t self.now.s result }
-    {
-        Answer::from(overlap(&self.t, &self.s))
-    }
-
+    // `run` hands the answer on, and `kept` with it: the clause is the promise.
     fn intersect(&mut self) -> Answer
         ensures kept { Denies result → self.new ≡ self.old }
         ensures shared { Leaves self.old result self.new }
@@ -141,45 +110,35 @@ impl Session {
     }
 }
 
-fn open(state: &mut StabilizerState, qubits: u64) -> Answer
-    ensures kept { Denies result → state.new ≡ state.old }
-    ensures opened { Opens qubits state.old result state.new }
+// Does what a command asks for of a state. `run` hands the answer on, and `kept` with it: the clause is the promise.
+fn run_on(
+    state: &mut StabilizerState,
+    command: StateCommand,
+    operands: &mut Operands,
+) -> Result<Answer, AllocError>
+    ensures kept { IfOk result (λ a. Denies a → state.new ≡ state.old) }
+    ensures looks { LooksAt command → state.new ≡ state.old }
+    ensures ran { IfOk result (λ a. RanOn command operands.old state.old a operands.new state.new) }
+    ensures memory { OnErr result (state.new ≡ state.old) }
 {
-    Answer::from(state.open(qubits))
-}
-
-fn gate(state: &mut StabilizerState, kind: u64, first: u64, second: u64) -> Answer
-    ensures kept { Denies result → state.new ≡ state.old }
-    ensures applied { Gates kind first second state.old result state.new }
-{
-    Answer::from(state.gate(kind, first, second))
-}
-
-fn project(state: &mut StabilizerState, text: &[u8]) -> Answer
-    ensures kept { Denies result → state.new ≡ state.old }
-    ensures projected { Projects text.now state.old result state.new }
-{
-    Answer::from(state.project(text))
-}
-
-fn read(state: &mut StabilizerState, bytes: &[u8]) -> Answer
-    ensures kept { Denies result → state.new ≡ state.old }
-    ensures read { Reads bytes.now state.old result state.new }
-{
-    Answer::from(codec::read(state, bytes))
-}
-
-fn take(state: &mut StabilizerState, archive: &[u8], index: u64) -> Answer
-    ensures kept { Denies result → state.new ≡ state.old }
-    ensures taken { Takes archive.now index state.old result state.new }
-{
-    Answer::from(container::take(state, archive, index))
-}
-
-fn amplitude(state: &StabilizerState, string: u64) -> Answer
-    ensures { ShowsAmplitude string state.now result }
-{
-    Answer::from(state.amplitude(string))
+    match command {
+        StateCommand::Open { qubits } => Ok(Answer::from(state.open(qubits))),
+        StateCommand::Read => Ok(Answer::from(codec::read(state, &operands.first))),
+        StateCommand::Take { index } => {
+            let taken = container::take(state, &operands.first, index);
+            Ok(Answer::from(taken))
+        }
+        StateCommand::Write => write(state, &mut operands.buffer),
+        StateCommand::WriteInto => Ok(write_into(state, &mut operands.buffer)),
+        StateCommand::Fields => Ok(Answer::Fields(*state)),
+        StateCommand::Amplitude { string } => Ok(Answer::from(state.amplitude(string))),
+        StateCommand::Gate {
+            kind,
+            first,
+            second,
+        } => Ok(Answer::from(state.gate(kind, first, second))),
+        StateCommand::Project => Ok(Answer::from(state.project(&operands.first))),
+    }
 }
 
 // Puts the bytes of a state into the buffer, and nothing else.

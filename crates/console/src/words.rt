@@ -2,6 +2,7 @@ ghost use Rattle.std.specs.Prelude.{◌≡◌, ◌≤◌, length, take, IfOk};
 ghost use Rattle.console.specs.Words.{trimmed as trimmed_of, before};
 
 use crate::problem::Problem;
+use cyclotomic::scalar::Scalar;
 use listing::hex::Hex;
 use std::num::ParseIntError;
 use std::str;
@@ -42,6 +43,19 @@ impl<'a> Words<'a> {
     // The next word as a number in base ten.
     pub(crate) fn number<N: FromStr<Err = ParseIntError>>(&mut self) -> Result<N, Problem> {
         number_of(self.word()?)
+    }
+
+    // The next word as the name of a state or of a ring.
+    pub(crate) fn named<N: TryFrom<&'a [u8], Error = Problem>>(&mut self) -> Result<N, Problem> {
+        N::try_from(self.word()?)
+    }
+
+    // The next three words as a scalar.
+    pub(crate) fn scalar(&mut self) -> Result<Scalar, Problem> {
+        let epsilon = self.number()?;
+        let power = self.number()?;
+        let turn = self.number()?;
+        Scalar::new(epsilon, power, turn).ok_or(Problem::NoScalar)
     }
 
     // Puts the bytes that the next word stands for into `out`, in place of what it held.

@@ -1,5 +1,5 @@
 -- Powers by squaring.
-use Rattle.std.proofs.Common.{◌≡◌, ℕ, zero, suc, ◌+◌, ◌/◌, ◌%◌, refl, ap, ◌∙◌, add-suc, suc-add, arith}
+use Rattle.std.proofs.Common.{◌≡◌, ℕ, zero, suc, ◌+◌, ◌/◌, ◌%◌, ◌⊎◌, refl, ap, ap₂, ◌∙◌, inl, inr, add-suc, suc-add, arith}
 use Rattle.cyclotomic.specs.Ring.{Ops, CommLaws, power}
 
 module _ {R : Type 0} {o : Ops R} (laws : CommLaws o) where
@@ -22,3 +22,9 @@ module _ {R : Type 0} {o : Ops R} (laws : CommLaws o) where
   odd_step r x n h =
       let e : suc (n / 2 + n / 2) ≡ n = omega arith in
       times_assoc r x _ ∙ ap (◌⊗◌ r) (ap (◌⊗◌ x) (square-power x (n / 2)) ∙ ap (power o x) e)
+
+  -- what is left of a power after a step of squaring
+  pub step : (r r' x x' : R) (n : ℕ) → x' ≡ x ⊗ x → ((n % 2 ≡ 1) × (r' ≡ r ⊗ x)) ⊎ ((n % 2 ≡ 1 → ⊥) × (r' ≡ r))
+      → r' ⊗ power o x' (n / 2) ≡ r ⊗ power o x n
+  step r r' x x' n s (inl (h, e)) = ap₂ (λ a b. a ⊗ power o b (n / 2)) e s ∙ odd_step r x n h
+  step r r' x x' n s (inr (h, e)) = ap₂ (λ a b. a ⊗ power o b (n / 2)) e s ∙ even_step r x n h

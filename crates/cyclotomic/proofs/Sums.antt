@@ -36,20 +36,6 @@ module _ {R : Type 0} {o : Ops R} (laws : CommLaws o) where
   sum-times x f zero = sym (CommFacts.times_nil laws x)
   sum-times x f (suc n) = ap (λ s. s ⊕ x ⊗ f n) (sum-times x f n) ∙ sym (times_plus x _ _)
 
-  -- the product of two sums
-  pub sum-sum : (f g : ℕ → R) (n m : ℕ) → sum_to o f n ⊗ sum_to o g m ≡ sum_to o (λ a. sum_to o (λ b. f a ⊗ g b) m) n
-  sum-sum f g zero m = CommFacts.nil_times laws _
-  sum-sum f g (suc n) m = CommFacts.plus_times laws _ _ _ ∙ ap₂ ◌⊕◌ (sum-sum f g n m) (sym (sum-times (f n) g m))
-
-  pub sum-const : (x : R) (n : ℕ) → sum_to o (λ c. x) n ≡ num o n ⊗ x
-  sum-const x zero = sym (CommFacts.nil_times laws x)
-  sum-const x (suc n) = ap (λ s. s ⊕ x) (sum-const x n) ∙ CommFacts.plus_comm laws _ _
-      ∙ ap (λ s. s ⊕ num o n ⊗ x) (sym (CommFacts.one_times laws x)) ∙ sym (CommFacts.plus_times laws one (num o n) x)
-
-  pub sum-split : (f : ℕ → R) (n m : ℕ) → sum_to o f (n + m) ≡ sum_to o f n ⊕ sum_to o (λ k. f (n + k)) m
-  sum-split f n zero = rw add-zero (sym (plus_nil _))
-  sum-split f n (suc m) = rw add-suc (ap (λ s. s ⊕ f (n + m)) (sum-split f n m) ∙ plus_assoc _ _ _)
-
   pub sum-swap : (f : ℕ → ℕ → R) (n m : ℕ) → sum_to o (λ a. sum_to o (λ b. f a b) m) n ≡ sum_to o (λ b. sum_to o (λ a. f a b) n) m
   sum-swap f zero m = sym (sum-nil (λ b. nil) m (λ c l. refl))
   sum-swap f (suc n) m = ap (λ s. s ⊕ sum_to o (f n) m) (sum-swap f n m) ∙ sym (sum-plus (λ b. sum_to o (λ a. f a b) n) (f n) m)
@@ -62,11 +48,6 @@ module _ {R : Type 0} {o : Ops R} (laws : CommLaws o) where
       at : Dec (z ≡ n) → (z < n → ((c : ℕ) → c < n → ¬ (c ≡ z) → f c ≡ nil) → sum_to o f n ≡ f z) → sum_to o f (suc n) ≡ f z
       at (yes e) back = ap₂ ◌⊕◌ (sum-nil f n (λ c k. h c (omega arith) (omega arith))) (ap f (sym e)) ∙ CommFacts.nil_plus laws (f z)
       at (no d) back = ap₂ ◌⊕◌ (back (omega arith) (λ c k. h c (omega arith))) (h n (omega arith) (omega arith)) ∙ plus_nil (f z)
-
-  -- blocks of m terms
-  pub sum-blocks : (f : ℕ → R) (n m : ℕ) → sum_to o f (n * m) ≡ sum_to o (λ a. sum_to o (λ b. f (a * m + b)) m) n
-  sum-blocks f zero m = rw zero-mul refl
-  sum-blocks f (suc n) m = rw suc-mul (sum-split f (n * m) m ∙ ap (λ s. s ⊕ sum_to o (λ b. f (n * m + b)) m) (sum-blocks f n m))
 
   pub delta : (f : ℕ → R) (n z : ℕ) → z < n → sum_to o (λ y. only o (eqb y z) (f y)) n ≡ f z
   delta f n z l = sum_one _ n z l (λ c k d. ap (λ b. only o b (f c)) (ne_eqb c z d)) ∙ ap (λ b. only o b (f z)) (eq-eqb z z refl)

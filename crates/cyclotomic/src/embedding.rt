@@ -37,12 +37,12 @@ pub fn embed<R: Ring>(x: Scalar) -> Result<R, Refusal>
     ensures number { IfErr result (λ e. number_of e ≡ 25) }
     ensures value { IfOk result (λ v. R.value v ≡ embedded R.ops (triple_of x)) }
 {
-    if x.power() < 0 {
+    let Some((exponent, turn)) = x.parts() else {
+        return Ok(R::zero());
+    };
+    if exponent < 0 {
         return Err(Refusal::NegativePower);
     }
-    if x.epsilon() == 0 {
-        return Ok(R::zero());
-    }
-    let size = power(root::<R>(), x.power() as u64);
-    Ok(size.times(power(R::omega(), x.turn())))
+    let size = power(root::<R>(), exponent as u64);
+    Ok(size.times(power(R::omega(), turn)))
 }

@@ -33,7 +33,8 @@ pub trait Ring: Copy {
     fn times(self, other: Self) -> Self
         ensures { value result ≡ ops.times (value self) (value other) };
 
-    // Whether two records stand for the same value.
+    // Whether two records stand for the same value. It has no body here, `self == other`: a law would have to say that `==` tells values
+    // apart, and for words its proof lacks their bound.
     fn equal(self, other: Self) -> bool
         ensures sound { T result → value self ≡ value other }
         ensures complete { value self ≡ value other → T result };

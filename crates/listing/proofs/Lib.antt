@@ -1,3 +1,3 @@
+mod Binary
 mod Commas
-mod Glyphs
 mod Numbered

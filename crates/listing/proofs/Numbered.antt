@@ -48,12 +48,6 @@ module _ (P Q R : ℕ × ℕ → Type 0) where
             ];
       }
 
--- the same pairs, by another word
-InOrder-same : (P Q : ℕ × ℕ → Type 0) (ps : List (ℕ × ℕ)) → ((p : ℕ × ℕ) → P p → Q p) → ((p : ℕ × ℕ) → Q p → P p)
-    → InOrder P ps → InOrder Q ps
-InOrder-same P Q ps there back p =
-    record { rising = p.rising; sound = All-weaker P Q there ps p.sound; complete = λ x h. p.complete x (back x h) }
-
 InOrder-nil : (P : ℕ × ℕ → Type 0) → ((p : ℕ × ℕ) → P p → ⊥) → InOrder P []
 InOrder-nil P none =
     record { rising = λ i j d h l. absurd (omega arith); sound = All-nil P; complete = λ p h. absurd (none p h) }
@@ -114,15 +108,6 @@ module _ {A : Type 0}
   pub Writes-nil : (P : ℕ × ℕ → Type 0) (u : Option (List ℕ)) → ((p : ℕ × ℕ) → P p → ⊥)
       → Writes (Lines shown tells states P) u u
   Writes-nil P u none = ([], Lines-nil P none, Appends-nil u)
-
-  -- the same lines, by another word for their numbers
-  pub Writes-same : (P Q : ℕ × ℕ → Type 0) (u v : Option (List ℕ)) → ((p : ℕ × ℕ) → P p → Q p) → ((p : ℕ × ℕ) → Q p → P p)
-      → Writes (Lines shown tells states P) u v → Writes (Lines shown tells states Q) u v
-  Writes-same P Q u v there back p = (
-    p.0,
-    record { lines = p.1.lines; pairs = InOrder-same P Q _ there back p.1.pairs; told = p.1.told; written = p.1.written },
-    p.2,
-  )
 
 -- what stands at a place has that place's number
 pub HoldsOf-at : (R : StabilizerState → StabilizerState → Type 0) (states : List StabilizerState) (i j : ℕ) (t s : StabilizerState)

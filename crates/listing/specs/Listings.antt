@@ -47,11 +47,3 @@ FaultOr P None archive text = OnStates P archive text
 -- the text of an archive: P of its states, or the line of its fault
 abbrev pub Reports : (List StabilizerState → List ℕ → Type 0) → List ℕ → List ℕ → Type 0
 Reports P archive text = FaultOr P (archive_fault archive) archive text
-
--- the listing of an archive
-abbrev pub Lists : List ℕ → List ℕ → Type 0
-Lists = Reports ListsStates
-
--- the description of an archive
-abbrev pub Describes : List ℕ → List ℕ → Type 0
-Describes = Reports DescribesStates

@@ -1,5 +1,5 @@
 -- Pairs of states by their numbers, and a line for each.
-use Rattle.std.specs.Prelude.{◌≡◌, ℕ, ◌-◌, ◌<◌, ◌≤◌, ◌⊎◌, List, map, All, AllPairs, Contains, Some, slice_get}
+use Rattle.std.specs.Prelude.{◌≡◌, ℕ, ◌+◌, ◌-◌, ◌<◌, ◌≤◌, ◌⊎◌, List, map, All, AllPairs, Contains, Some, drop, slice_get}
 use Rattle.std.specs.List.{flat_map}
 use Rattle.stabilizer.specs.declared.state.StabilizerState.{StabilizerState}
 use Rattle.listing.specs.Lines.{LineTells, line_numbers}
@@ -24,6 +24,11 @@ IsPair n p = (1 ≤ p.0) × (p.0 < p.1) × (p.1 ≤ n)
 -- those with the first number i
 abbrev pub IsPairOf : ℕ → ℕ → ℕ × ℕ → Type 0
 IsPairOf i n p = IsPair n p × (p.0 ≡ i)
+
+-- t stands at the place i of the states, and these stand behind it
+pub record StandsAt (states : List StabilizerState) (i : ℕ) (t : StabilizerState) (behind : List StabilizerState) : Type 0 where
+  pub at : slice_get states i ≡ Some t
+  pub rest : drop (i + 1) states ≡ behind
 
 -- R holds of the states with these numbers, which count from 1
 abbrev pub HoldsOf : (StabilizerState → StabilizerState → Type 0) → List StabilizerState → ℕ × ℕ → Type 0

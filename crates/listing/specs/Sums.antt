@@ -16,7 +16,7 @@ abbrev pub residue_of : Mod17 → Below 17
 residue_of x = low (lit< tt) x.residue
 
 abbrev pub quad_of : Cyclotomic64 → Quad
-quad_of x = quad (low {n = 2 ^ 64} (lit< tt) x.a0) (low (lit< tt) x.a1) (low (lit< tt) x.a2) (low (lit< tt) x.a3)
+quad_of x = quad (low {n = 2 ^ 64} (lit< tt) x.a0.0) (low (lit< tt) x.a1.0) (low (lit< tt) x.a2.0) (low (lit< tt) x.a3.0)
 
 -- the number of dimensions, 0 for an empty intersection
 abbrev pub dimension : Intersection → ℕ

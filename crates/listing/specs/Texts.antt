@@ -15,7 +15,7 @@ scalar_text x = triple_text (triple_of x)
 -- two digits of a residue; four words of sixteen
 abbrev pub columns_text : Option Columns → List ℕ
 columns_text None = codes "-- --"
-columns_text (Some c) = residue_text c.residue.residue ++ (codes " " ++ words_text c.quad.a0 c.quad.a1 c.quad.a2 c.quad.a3)
+columns_text (Some c) = residue_text c.residue.residue ++ (codes " " ++ words_text c.quad.a0.0 c.quad.a1.0 c.quad.a2.0 c.quad.a3.0)
 
 abbrev pub mark_text : Bool → List ℕ
 mark_text true = codes "="

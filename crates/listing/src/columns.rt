@@ -9,6 +9,9 @@ use quadratic::intersection::Intersection;
 use quadratic::running::closed_form;
 use std::fmt;
 
+// The most dimensions of an intersection whose columns are shown.
+const LARGEST: u64 = 12;
+
 // The sum over all strings of an intersection, in each of the two rings. Its closed form is proved to be the same as adding the
 // strings one by one.
 #[derive(Clone, Copy)]
@@ -17,11 +20,11 @@ pub struct Columns {
     pub quad: Cyclotomic64,
 }
 
-// The columns of an intersection, unless it has more than 12 dimensions.
+// The columns of an intersection, unless it has too many dimensions.
 pub fn columns_of(x: &Intersection) -> Option<Columns>
     ensures { ColumnsOf result x.now }
 {
-    if x.dimension().unwrap_or(0) > 12 {
+    if x.dimension().is_some_and(|dimension| dimension > LARGEST) {
         return None;
     }
     Some(Columns {

@@ -1,5 +1,5 @@
 ghost use Rattle.std.specs.Prelude.{Some};
-ghost use Rattle.listing.specs.Texts.{comparison_text};
+ghost use Rattle.listing.specs.Texts.{comparison_text, mark_text};
 
 use crate::columns::Columns;
 use cyclotomic::scalar::Scalar;
@@ -15,11 +15,23 @@ pub struct Comparison {
     pub equal: bool,
 }
 
+// Whether two things are the same, as it is shown.
+#[derive(Clone, Copy)]
+pub struct Mark(pub bool);
+
+impl fmt::Display for Mark {
+    ghost output = { λ x. Some (mark_text x.0) };
+
+    fn fmt<W: fmt::Write>(&self, f: &mut fmt::Formatter<W>) -> fmt::Result {
+        f.write_str(if self.0 { "=" } else { "." })
+    }
+}
+
 impl fmt::Display for Comparison {
     ghost output = { λ x. Some (comparison_text x) };
 
     fn fmt<W: fmt::Write>(&self, f: &mut fmt::Formatter<W>) -> fmt::Result {
-        let mark = if self.equal { "=" } else { "." };
+        let mark = Mark(self.equal);
         match self.columns {
             Some(columns) => write!(f, "{} {columns} {mark}", self.overlap),
             None => write!(f, "{} -- -- {mark}", self.overlap),

@@ -1,21 +1,16 @@
 ghost use Rattle.std.specs.Prelude.{◌≡◌, ◌<◌, IfSome, Some, MatchBool, MatchOption, OnOk};
-ghost use Rattle.std.specs.Fmt.{WritesOnOk};
 ghost use Rattle.listing.specs.Digits.{nibble_of, Digits, Paired, digits_of, Decoded, hex_text};
 
 use std::alloc::AllocError;
 use std::fmt;
 
-// The number that a hexadecimal digit stands for. By cases, since `to_digit` of a char answers a u32.
+// The number that a hexadecimal digit stands for.
 pub fn nibble(digit: u8) -> Option<u8>
     ensures value { result ≡ nibble_of digit }
     ensures small { IfSome result (λ d. d < 16) }
 {
-    match digit {
-        b'0'..=b'9' => Some(digit - b'0'),
-        b'a'..=b'f' => Some(digit - b'a' + 10),
-        b'A'..=b'F' => Some(digit - b'A' + 10),
-        _ => None,
-    }
+    let value = (digit as char).to_digit(16)?;
+    Some(value as u8)
 }
 
 // Bytes as a run of hexadecimal digits, a pair to a byte; `-` stands for none.
@@ -27,15 +22,14 @@ pub struct Hex<'a> {
 impl<'a> Hex<'a> {
     // The word as such a run, if it is one.
     pub fn new(word: &'a [u8]) -> Option<Hex<'a>>
-        ensures { MatchOption result (Paired word.now → ⊥) (λ h. Paired word.now × (h.digits.now ≡ digits_of word.now)) }
+        ensures paired { MatchOption result (Paired word.now → ⊥) (λ _. Paired word.now) }
+        ensures digits { IfSome result (λ h. h.digits.now ≡ digits_of word.now) }
     {
-        if word.len() == 1 && word[0] == b'-' {
-            return Some(Hex { digits: &[] });
+        match word {
+            [b'-'] => Some(Hex { digits: &[] }),
+            [_, ..] if word.len() % 2 == 0 && all_digits(word) => Some(Hex { digits: word }),
+            _ => None,
         }
-        if word.is_empty() || word.len() % 2 == 1 || !all_digits(word) {
-            return None;
-        }
-        Some(Hex { digits: word })
     }
 
     // Puts the bytes into `out`, in place of what it held.
@@ -43,10 +37,10 @@ impl<'a> Hex<'a> {
         ensures { OnOk result (Decoded self.entry.digits.now out.new.items) }
     {
         out.clear();
-        for pair in self.digits.chunks_exact(2) {
-            let high = nibble(pair[0]).unwrap_or(0);
-            let low = nibble(pair[1]).unwrap_or(0);
-            out.push(16 * high + low)?;
+        let mut digits = self.digits;
+        while let [high, low, rest @ ..] = digits {
+            out.push(16 * nibble(*high).unwrap_or(0) + nibble(*low).unwrap_or(0))?;
+            digits = rest;
         }
         Ok(())
     }
@@ -74,15 +68,5 @@ impl fmt::Display for HexBytes<'_> {
             write!(f, "{byte:02x}")?;
         }
         Ok(())
-    }
-}
-
-// Writes text that is given as bytes.
-pub fn write_ascii<W: fmt::Write>(f: &mut fmt::Formatter<W>, bytes: &[u8]) -> fmt::Result
-    ensures { WritesOnOk W.Write.write_str_gives f.old result bytes.now f.new }
-{
-    match std::str::from_utf8(bytes) {
-        Ok(text) => f.write_str(text),
-        Err(_) => Err(fmt::Error),
     }
 }

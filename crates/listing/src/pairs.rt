@@ -1,5 +1,6 @@
-ghost use Rattle.std.specs.Prelude.{◌+◌, ◌<◌, length, OnOk};
-ghost use Rattle.listing.specs.Pairs.{IsPair, IsPairOf, Lines};
+ghost use Rattle.std.specs.Prelude.{◌+◌, ◌^◌, ◌<◌, List, length, OnOk};
+ghost use Rattle.stabilizer.specs.declared.state.StabilizerState.{StabilizerState};
+ghost use Rattle.listing.specs.Pairs.{IsPair, IsPairOf, Lines, StandsAt};
 ghost use Rattle.listing.specs.Written.{Writes};
 
 use crate::line::Line;
@@ -16,26 +17,26 @@ pub(crate) fn write_pairs<T: OfPair, O: Write>(
     ensures { OnOk result (Writes (Lines T.text T.tells states.now (IsPair (length states.now)))
         (O.contents out.old) (O.contents out.new)) }
 {
-    // by places: a place numbers the lines, and the second states are those behind it
-    for i in 0..states.len() {
-        write_pairs_of::<T, O>(out, states, i)?;
+    for (i, t) in states.iter().enumerate() {
+        write_pairs_of::<T, O>(out, i, t, &states[i + 1..])?;
     }
     Ok(())
 }
 
-// Writes the lines of the pairs whose first state stands at i.
+// Writes the lines of the pairs of t, which stands at i, with each state behind it.
 fn write_pairs_of<T: OfPair, O: Write>(
     out: &mut O,
-    states: &[StabilizerState],
     i: usize,
+    t: &StabilizerState,
+    behind: &[StabilizerState],
 ) -> io::Result<()>
-    requires { i < length states.now }
-    ensures { OnOk result (Writes (Lines T.text T.tells states.now (IsPairOf (i + 1) (length states.now)))
-        (O.contents out.old) (O.contents out.new)) }
+    requires { i + 1 + length behind.now < 2 ^ 63 }
+    ensures { (states : List StabilizerState) → StandsAt states i t.now behind.now → OnOk result
+        (Writes (Lines T.text T.tells states (IsPairOf (i + 1) (length states))) (O.contents out.old) (O.contents out.new)) }
 {
-    for (k, s) in states[i + 1..].iter().enumerate() {
+    for (k, s) in behind.iter().enumerate() {
         let j = i + 1 + k;
-        let line = Line::<T>::new(i as u64 + 1, j as u64 + 1, &states[i], s);
+        let line = Line::<T>::new(i as u64 + 1, j as u64 + 1, t, s);
         writeln!(out, "{line}")?;
     }
     Ok(())

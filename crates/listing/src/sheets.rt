@@ -8,7 +8,7 @@ ghost use Rattle.listing.specs.Written.{Writes};
 
 use crate::comparison::Comparison;
 use crate::pairs::write_pairs;
-use archive::fault::Report;
+use archive::fault::Fault;
 use archive::load::{LoadError, load};
 use stabilizer::state::StabilizerState;
 use std::alloc::Global;
@@ -74,7 +74,7 @@ pub(crate) fn write_load_error<O: Write>(out: &mut O, error: LoadError) -> io::R
 {
     match error {
         LoadError::Archive(fault) => {
-            let report = Report::from(fault);
+            let report = fault.report();
             writeln!(out, "{report}")
         }
         LoadError::Memory => Err(io::Error::from(ErrorKind::OutOfMemory)),

@@ -1,14 +1,12 @@
-ghost use Rattle.std.specs.Prelude.{◌≡◌, ℕ, ◌+◌, ◌-◌, ◌<◌, ◌≤◌, IfSome, List, Some, min, nat_lt, slice_index};
+ghost use Rattle.std.specs.Prelude.{ℕ, ◌≤◌, IfSome, List, Some, min};
 ghost use Rattle.std.specs.Fmt.{WritesOnOk};
-ghost use Rattle.quadratic.specs.Bits.{bit};
 ghost use Rattle.listing.specs.Fields.{behind, bits_text, coupling_texts, dimension_of, following, joined, linear_text, row_text, Shows, space_text, up_to};
 
-use crate::hex::write_ascii;
 use quadratic::phased::PhasedSpace;
 use std::fmt;
 
 // The most bits that a string has.
-const LONGEST: usize = 48;
+const LONGEST: u64 = 48;
 
 // A space with its phases as it is shown: phase, rows, shift, linear coefficients, couplings. Strings have a bit for each qubit.
 #[derive(Clone, Copy)]
@@ -48,21 +46,14 @@ impl fmt::Display for BitsText {
     ghost output = { λ x. Some (bits_text (min x.length 48) x.string) };
 
     fn fmt<W: fmt::Write>(&self, f: &mut fmt::Formatter<W>) -> fmt::Result {
-        let bits = bits_of(self.string);
-        let length = self.length.min(LONGEST as u64) as usize;
-        write_ascii(f, &bits[LONGEST - length..LONGEST])
+        let length = self.length.min(LONGEST) as usize;
+        // a width of 0 would still show a digit
+        if length == 0 {
+            return Ok(());
+        }
+        let lowest = self.string % (1 << length);
+        write!(f, "{lowest:0length$b}")
     }
-}
-
-// The lowest 48 bits of a string as digits, the highest first.
-fn bits_of(string: u64) -> [u8; LONGEST]
-    ensures { (k : ℕ) → k < 48 → slice_index result k ≡ 48 + bit string (47 - k) }
-{
-    let mut bits = [0; LONGEST];
-    for (i, digit) in bits.iter_mut().enumerate() {
-        *digit = b'0' + (string >> (LONGEST - 1 - i) & 1) as u8;
-    }
-    bits
 }
 
 // The rows, joined by commas.
@@ -110,14 +101,15 @@ impl fmt::Display for CouplingsText<'_> {
     ghost output = { λ x. Some (joined (coupling_texts x.0.now (dimension_of x.0.now))) };
 
     fn fmt<W: fmt::Write>(&self, f: &mut fmt::Formatter<W>) -> fmt::Result {
-        if self.0.dimension() < 2 {
-            return f.write_str("-");
-        }
         let space = self.0;
         let dimension = space.dimension();
-        for a in 0..dimension {
-            write_items(f, a > 0, dimension - (a + 1), |b| {
-                space.coupling(a + 1, a + 1 + b).unwrap_or(0)
+        if dimension < 2 {
+            return f.write_str("-");
+        }
+        // a row goes with those after it, and its number counts them
+        for a in 1..dimension {
+            write_items(f, a > 1, dimension - a, |b| {
+                space.coupling(a, a + b).unwrap_or(0)
             })?;
         }
         Ok(())
@@ -151,8 +143,8 @@ fn write_items<W: fmt::Write, D: fmt::Display + Drop, F: Fn(u64) -> D>(
     ensures { (text : ℕ → List ℕ) → Shows count D.output (F.post item) text
         → WritesOnOk W.Write.write_str_gives f.old result (following others (up_to text count)) f.new }
 {
-    for a in 0..count {
-        write_item(f, others || a > 0, item(a + 1))?;
+    for a in 1..=count {
+        write_item(f, others || a > 1, item(a))?;
     }
     Ok(())
 }

@@ -1,5 +1,5 @@
 -- A fresh running sum that is handed one intersection again and again.
-use Rattle.std.proofs.Common.{◌≡◌, ℕ, ◌<◌, ◌≤◌, refl, ap, sym, ◌∙◌, pow_mono, ◌-◌, ◌^◌, arith}
+use Rattle.std.proofs.Common.{◌≡◌, ℕ, suc, ◌+◌, ◌<◌, ◌≤◌, refl, ap, sym, ◌∙◌, pow_mono, ◌-◌, ◌^◌, arith}
 use lib.Count.{ones-le}
 use Rattle.cyclotomic.specs.Refusals.{number_of}
 use Rattle.cyclotomic.specs.Ring.{Ops, RingLaws}
@@ -44,6 +44,17 @@ full count x e h = let l = positive e in grind (arith, l, h)
 -- where one is granted, there was room
 pub room : (count : ℕ) (x : Intersection) → 0 ≡ add_number count x → count < strings_in x
 room count x e = grind (arith, e)
+
+-- one string more
+pub another : {R : Type 0} (o : Ops R) (x : Intersection) (value value' : R) (count count' calls : ℕ) → Counted o x value count calls
+    → count' ≡ count + 1 → value' ≡ o.plus value (term_in o x count) → count < strings_in x → Counted o x value' count' (calls + 1)
+another o x value value' count count' calls c one sum l =
+    let more : count' ≡ suc count = omega (arith, one) in
+    record {
+      calls_made = one ∙ ap (λ n. n + 1) c.calls_made;
+      within = omega (arith, one, l);
+      sum = sum ∙ ap (λ s. o.plus s (term_in o x count)) c.sum ∙ ap (sum_to o (term_in o x)) (sym more);
+    }
 
 -- every string's power of w together is the sum over all strings
 pub all-added : {R : Type 0} (o : Ops R) (x : Intersection) → sum_to o (term_in o x) (strings_in x) ≡ total o x

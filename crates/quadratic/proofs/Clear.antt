@@ -1,5 +1,5 @@
 -- One variable turned over, and one variable cleared.
-use Rattle.std.proofs.Common.{◌≡◌, ℕ, zero, suc, ◌+◌, ◌*◌, ◌%◌, ◌^◌, ◌<◌, ◌≢◌, List, [], ◌∷◌, get_or, set, sym, refl, ap, ◌∙◌, ap₂, add-zero, mod-eq_of_lt, mul-zero, mul-one, arith, get_or-set_other, pow_pos}
+use Rattle.std.proofs.Common.{◌≡◌, ℕ, zero, suc, ◌+◌, ◌*◌, ◌/◌, ◌%◌, ◌^◌, ◌<◌, ◌≢◌, List, [], ◌∷◌, get_or, set, sym, refl, ap, ◌∙◌, ap₂, add-zero, mod-eq_of_lt, mul-zero, mul-one, arith, get_or-set_other, pow_pos}
 use native.Mathlib.Decide.{ℕ_discrete}
 use native.Mathlib.Nat.{mod-mod}
 use lib.Bits.{bit_and, bit_xor, xor_lt, and_le_l}
@@ -137,3 +137,7 @@ pub slope-at : (f : QuadraticForm) (a c : ℕ) → a < 48
     → value_at f (bit_xor c (2 ^ a)) ≡ (value_at f c + (coef f.odd f.neg a + 4 * dot (get_or f.coupling a 0) c)) % 8
 unfolding value_at
 slope-at f a c l = value-bit 48 f.phase f.odd f.neg f.coupling f.inside f.square f.own a c l
+
+-- a linear coefficient is even
+pub twice-half : (odd neg a d : ℕ) → d ≡ coef odd neg a → 2 * (d / 2) ≡ d
+twice-half odd neg a d e = omega (arith, e)

@@ -38,14 +38,14 @@ module _ (f : QuadraticForm) (live a : ℕ) (inside : live < 2 ^ 48) (on : bit l
   pub odd-left : (f₁ f' : QuadraticForm) (d p r power : ℕ) → bit f.odd a ≡ 1 → d ≡ coef f.odd f.neg a
       → p ≡ get_or f.coupling a 0 → r ≡ bit_xor live (2 ^ a)
       → ((c : ℕ) → value_at f₁ c ≡ (value_at f c + (1 + 6 * (d / 4))) % 8)
-      → ((c : ℕ) → value_at f' c ≡ (value_at f₁ c + (8 - d) * dot (bit_and p r) c) % 8)
+      → ((c : ℕ) → value_at f' c ≡ (value_at f₁ c + 2 * (4 - d / 2) * dot (bit_and p r) c) % 8)
       → left_of omegas f' r (power + 1) ≡ left_of omegas f live power
   odd-left f₁ f' d p r power odd de pe re one law =
       let n = bit f.neg a in
       let ln = bit-lt f.neg a in
       let e : d ≡ 2 + 4 * n = de ∙ own (2 + 4 * n) 1 odd refl in
       let k : 1 + 6 * (d / 4) ≡ 1 + 6 * n = omega (arith, e, ln) in
-      let t : 8 - d ≡ 6 - 4 * n = omega (arith, e, ln) in
+      let t : 2 * (4 - d / 2) ≡ 6 - 4 * n = omega (arith, e, ln) in
       ap (λ m. left_of omegas f' m (power + 1)) re
       ∙ root-out omega-laws power _ _
       (odd-out omega-laws (value_at f) live a (get_or f.coupling a 0) (2 + 4 * n) on place

@@ -1,5 +1,5 @@
 -- Combinations and membership in a space in reduced echelon form.
-use Rattle.std.proofs.Common.{◌≡◌, ℕ, zero, suc, ◌*◌, ◌%◌, ◌^◌, ◌<◌, Bool, true, false, eqb, sym, refl, ap, ◌∙◌, ap₂, lt_of_le_of_lt, mod-lt, one-mul, mul-zero, zero-mul, mul-one, arith, pow_pos}
+use Rattle.std.proofs.Common.{◌≡◌, ℕ, zero, suc, ◌*◌, ◌%◌, ◌^◌, ◌<◌, Bool, true, false, not, eqb, sym, refl, ap, ◌∙◌, ap₂, lt_of_le_of_lt, mod-lt, one-mul, mul-zero, zero-mul, mul-one, arith, pow_pos}
 use native.Mathlib.Decide.{ℕ_discrete, dec_lt}
 use lib.Bits.{bit_and, bit_xor, xor_assoc, xor_comm, xor_self, xor_zero_l, xor_zero_r, and_comm, and_self, and_le_r}
 use lib.Count.{ones}
@@ -8,6 +8,7 @@ use Rattle.quadratic.proofs.Bitlaws.{digit, bit-lt, bit-and, bit-zero, bit-pow, 
 use Rattle.quadratic.proofs.Dots.{by_bits, and_assoc, dot-pow}
 use Rattle.quadratic.proofs.Lowest.{set_below}
 use Rattle.quadratic.specs.Bits.{flag}
+use Rattle.std.specs.Bool.{beq}
 use Rattle.quadratic.specs.Echelon.{row, combination, reduced}
 use Rattle.quadratic.specs.Strings.{Member}
 use Rattle.quadratic.specs.declared.affine.AffineSpace.{AffineSpace}
@@ -21,6 +22,15 @@ flag-lt false = omega arith
 -- the test of a bit, as a bit
 pub tested : (x b : ℕ) → x ≡ b → x < 2 → flag (eqb x 1) ≡ b
 tested x b e l = digit (λ x. flag (eqb x 1) ≡ x) refl refl x l ∙ e
+
+-- two bits that differ, as a bit: one of them tested, or one of them a truth value
+pub differ : (d : ℕ) (b : Bool) → d < 2 → flag (not (beq (eqb d 1) b)) ≡ bit_xor d (flag b)
+differ d true l = digit (λ d. flag (not (beq (eqb d 1) true)) ≡ bit_xor d 1) refl refl d l
+differ d false l = digit (λ d. flag (not (beq (eqb d 1) false)) ≡ bit_xor d 0) refl refl d l
+
+pub differ_from : (b : Bool) (d : ℕ) → d < 2 → flag (not (beq b (eqb d 1))) ≡ bit_xor (flag b) d
+differ_from true d l = digit (λ d. flag (not (beq true (eqb d 1))) ≡ bit_xor 1 d) refl refl d l
+differ_from false d l = digit (λ d. flag (not (beq false (eqb d 1))) ≡ bit_xor 0 d) refl refl d l
 
 -- ---- masks
 

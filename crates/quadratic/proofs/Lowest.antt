@@ -138,6 +138,13 @@ lowest-below x p y l on e = let f = left-falls x p y on e in omega (arith, f, l)
 pub lowest-fewer : (x p y : ℕ) → x < 2 ^ 48 → bit x p ≡ 1 → y ≡ bit_xor x (2 ^ p) → ones y < ones x
 lowest-fewer x p y l on e = let d = ones-drop x p l on in let s = ap ones e in omega (arith, d, s)
 
+-- a live variable less, for a power of at most two more
+pub summed-out : (live a r power k : ℕ) → live < 2 ^ 48 → bit live a ≡ 1 → r ≡ bit_xor live (2 ^ a) → k ≤ 2
+    → power + 2 * ones live ≤ 96 → (r < 2 ^ 48) × (power + k + 2 * ones r ≤ 96)
+summed-out live a r power k inside on e most few =
+    let n = ap (λ x. ones x + 1) e ∙ ones-drop live a inside on in
+    (lowest-below live a r inside on e, omega (arith, n, few, most))
+
 pub ones-zero : ones 0 ≡ 0
 unfolding ones
 ones-zero = refl

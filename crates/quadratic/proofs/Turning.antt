@@ -59,7 +59,7 @@ pub rows_seen : (s : AffineSpace) (w l : ℕ) → ((p : ℕ) → bit l p ≡ dot
 rows_seen s w l is y = sym (part-dot l s.pivots y (resp-inside s.pivots (row s.rows) s.shift (facts s) w l is))
 
 abbrev Steps : ℕ → ℕ → ℕ → ℕ → ℕ → Type 0
-Steps v a b x y = (((v + 4 * (x * y)) % 8 + 4 * a * bit_xor b y) % 8 + 4 * b * x) % 8 ≡ (v + 4 * (bit_xor a x * bit_xor b y)) % 8
+Steps v a b x y = (((v + 4 * (x * y)) % 8 + 2 * (2 * a) * bit_xor b y) % 8 + 2 * (2 * b) * x) % 8 ≡ (v + 4 * (bit_xor a x * bit_xor b y)) % 8
 
 steps : (v a b : ℕ) → a < 2 → b < 2 → (x y : ℕ) → x < 2 → y < 2 → Steps v a b x y
 steps v =
@@ -71,10 +71,10 @@ steps v =
 
 -- a product of two parities in three steps
 pub product-steps : (v v₁ v₂ v₃ : ℕ → ℕ) (a b l m : ℕ) → a < 2 → b < 2 → ((c : ℕ) → v₁ c ≡ (v c + 4 * (dot l c * dot m c)) % 8)
-    → ((c : ℕ) → v₂ c ≡ (v₁ c + 4 * a * bit_xor b (dot m c)) % 8) → ((c : ℕ) → v₃ c ≡ (v₂ c + 4 * b * dot l c) % 8)
+    → ((c : ℕ) → v₂ c ≡ (v₁ c + 2 * (2 * a) * bit_xor b (dot m c)) % 8) → ((c : ℕ) → v₃ c ≡ (v₂ c + 2 * (2 * b) * dot l c) % 8)
     → (c : ℕ) → v₃ c ≡ (v c + 4 * (bit_xor a (dot l c) * bit_xor b (dot m c))) % 8
 product-steps v v₁ v₂ v₃ a b l m la lb h₁ h₂ h₃ c =
-    h₃ c ∙ ap (λ x. (x + 4 * b * dot l c) % 8) (h₂ c ∙ ap (λ x. (x + 4 * a * bit_xor b (dot m c)) % 8) (h₁ c))
+    h₃ c ∙ ap (λ x. (x + 2 * (2 * b) * dot l c) % 8) (h₂ c ∙ ap (λ x. (x + 2 * (2 * a) * bit_xor b (dot m c)) % 8) (h₁ c))
     ∙ steps (v c) a b la lb (dot l c) (dot m c) (dot-lt l c) (dot-lt m c)
 
 -- each string moves by d, and its phase with it

@@ -25,6 +25,13 @@ pub record Lowest (x p y : ℕ) : Type 0 where
   pub least : (q : ℕ) → q < p → bit x q ≡ 0
   pub rest : y ≡ bit_xor x (2 ^ p)
 
+-- p is the place of the highest set bit of x, and y is x without it
+pub record Highest (x p y : ℕ) : Type 0 where
+  pub place : p < 48
+  pub on : bit x p ≡ 1
+  pub most : x < 2 ^ suc p
+  pub rest : y ≡ bit_xor x (2 ^ p)
+
 -- the table t' is t with the mask added to each row of `rows`
 abbrev pub RowsXor : List ℕ → List ℕ → ℕ → ℕ → Type 0
 RowsXor t t' rows mask = (k : ℕ) → slice_index t' k ≡ bit_xor (slice_index t k) (bit rows k * mask)

@@ -9,6 +9,7 @@ mod ops;
 #[derive(Clone, Copy, PartialEq, Eq)]
 pub struct AffineSpace {
     pivots: u64,
+    // a fixed array, since no string has more than 48 bits and there is no heap here
     rows: [u64; 48],
     shift: u64,
     ghost within: { pivots < 2 ^ 48 },

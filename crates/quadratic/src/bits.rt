@@ -1,9 +1,10 @@
 ghost use Rattle.std.specs.Prelude.{◌≡◌, ℕ, suc, ◌+◌, ◌*◌, ◌%◌, ◌^◌, ◌<◌, ◌≤◌, length, bit_xor, count_ones, slice_index, MatchOption};
 ghost use Rattle.std.specs.Iterator.{at_most};
 ghost use Rattle.quadratic.specs.Numbering.{place, spread};
-ghost use Rattle.quadratic.specs.Bits.{bit as digit, dot as parity, Lowest, RowsXor};
+ghost use Rattle.quadratic.specs.Bits.{bit as digit, dot as parity, Lowest, Highest, RowsXor};
 
-// Strings and masks are plain words: a type of 48 bits would need a method of its own for each word operation.
+// Strings and masks are plain words, and places plain indices: a type for a word of 48 bits, or for a place below 48, would be opened again
+// at each word operation, shift and array.
 
 // Bit i of x.
 pub(crate) fn bit(x: u64, i: usize) -> u64
@@ -22,14 +23,14 @@ pub(crate) fn dot(x: u64, y: u64) -> u64
     ((x & y).count_ones() & 1) as u64
 }
 
-// The places of the set bits of a word below bit 48, the lowest first.
+// The places of the set bits of a word below bit 48, the lowest first, or from the other end the highest first.
 #[derive(Drop)]
-pub(crate) struct SetBits {
+pub struct SetBits {
     left: u64,
     ghost inside: { left < 2 ^ 48 },
 }
 
-pub(crate) fn set_bits(x: u64) -> SetBits
+pub fn set_bits(x: u64) -> SetBits
     ensures { result.left ≡ x % 2 ^ 48 }
 {
     SetBits {
@@ -50,6 +51,19 @@ impl Iterator for SetBits {
         }
         let p = lowest(self.left);
         self.left &= self.left - 1;
+        Some(p)
+    }
+}
+
+impl DoubleEndedIterator for SetBits {
+    ghost next_back_gives = { λ s p t. MatchOption p (s.left ≡ 0) (λ p. Highest s.left p t.left) };
+
+    fn next_back(&mut self) -> Option<usize> {
+        if self.left == 0 {
+            return None;
+        }
+        let p = highest(self.left);
+        self.left = turned(self.left, p);
         Some(p)
     }
 }
@@ -91,7 +105,7 @@ pub(crate) fn xor_rows(table: &mut [u64; 48], rows: u64, mask: u64)
     }
 }
 
-// Adds one table to another, row by row.
+// Adds one table to another, row by row. By `enumerate`: after a `zip` the goal names the final table by no name that a proof can use.
 pub(crate) fn xor_tables(table: &mut [u64; 48], other: &[u64; 48])
     ensures { (k : ℕ) → slice_index table.new k ≡ bit_xor (slice_index table.old k) (slice_index other.now k) }
 {
@@ -116,16 +130,8 @@ pub(crate) fn odd_rows(table: &[u64; 48], w: u64) -> u64
 pub(crate) fn nth(mask: u64, a: u64) -> Option<usize>
     ensures { result ≡ place 48 mask a }
 {
-    let mut left = a;
-    for p in (0..48).rev() {
-        if bit(mask, p) == 1 {
-            if left == 1 {
-                return Some(p);
-            }
-            left = left.saturating_sub(1);
-        }
-    }
-    None
+    let passed = a.checked_sub(1)?;
+    set_bits(mask).rev().nth(passed as usize)
 }
 
 // The bits of c, the lowest first, put where the mask has a bit, the highest first.
@@ -134,11 +140,9 @@ pub(crate) fn deposit(mask: u64, c: u64) -> u64
 {
     let mut sum = 0;
     let mut left = c;
-    for p in (0..48).rev() {
-        if bit(mask, p) == 1 {
-            sum += (left % 2) << p;
-            left /= 2;
-        }
+    for p in set_bits(mask).rev() {
+        sum += (left % 2) << p;
+        left /= 2;
     }
     sum
 }

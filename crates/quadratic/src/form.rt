@@ -11,6 +11,7 @@ pub struct QuadraticForm {
     phase: u8,
     odd: u64,
     neg: u64,
+    // a fixed array, since there are 48 variables and no heap here
     coupling: [u64; 48],
     ghost phased: { phase < 8 },
     ghost odds: { odd < 2 ^ 48 },

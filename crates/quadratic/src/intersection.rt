@@ -3,7 +3,8 @@ ghost use Rattle.quadratic.specs.Meets.{dimension_in, phase_in, shift_inside, ro
 
 use crate::phased::PhasedSpace;
 
-// The strings that two states share, with the difference of their phases: none, or those of a phased space.
+// The strings that two states share, with the difference of their phases: none, or those of a phased space. It is a type and no bare
+// Option, since it has a space's methods, which answer none for the empty one.
 #[derive(Clone, Copy)]
 pub struct Intersection {
     pub space: Option<PhasedSpace>,

@@ -2,7 +2,7 @@
 #![tactic(auto)]
 
 pub mod affine;
-mod bits;
+pub mod bits;
 pub mod coordinates;
 pub mod form;
 pub mod intersection;

@@ -1,4 +1,4 @@
-ghost use Rattle.std.specs.Prelude.{◌≡◌, ℕ, bit_and};
+ghost use Rattle.std.specs.Prelude.{◌≡◌, ℕ, ◌<◌, bit_and};
 ghost use Rattle.quadratic.specs.Value.{value_at};
 
 use crate::affine::AffineSpace;
@@ -13,4 +13,12 @@ pub struct PhasedSpace {
     space: AffineSpace,
     form: QuadraticForm,
     ghost idle: { (c : ℕ) → value_at form c ≡ value_at form (bit_and c space.pivots) },
+}
+
+// By what a phase turns at a string: 2 * quarters, and 4 times the parity with the mask.
+#[derive(Clone, Copy)]
+pub struct Turn {
+    pub quarters: u8,
+    pub mask: u64,
+    ghost few: { quarters < 4 },
 }

@@ -94,7 +94,7 @@ impl Remaining {
         let row = self.form.partners(a) & rest;
         let own = self.form.linear(a) as u8;
         self.form.add_phase(1 + 6 * (own / 4));
-        self.form.add_parity(8 - own, row);
+        self.form.add_parity(4 - own / 2, row);
         self.live = rest;
         self.power += 1;
     }
@@ -102,8 +102,10 @@ impl Remaining {
     // Sums out two coupled variables whose linear coefficients are 4α and 4β: with x and y the parities of their rows on the rest,
     // the four terms come to 2 (-1)^((α + x)(β + y)).
     fn sum_pair(&mut self, a: usize, b: usize)
-        requires lives { (digit self.old.live a ≡ 1) × (digit self.old.live b ≡ 1) }
-        requires evens { (digit self.old.form.odd a ≡ 0) × (digit self.old.form.odd b ≡ 0) }
+        requires first { digit self.old.live a ≡ 1 }
+        requires second { digit self.old.live b ≡ 1 }
+        requires first_even { digit self.old.form.odd a ≡ 0 }
+        requires second_even { digit self.old.form.odd b ≡ 0 }
         requires coupled { digit (slice_index self.old.form.coupling a) b ≡ 1 }
         ensures { Reduced self.old.form self.new.form self.old.live self.new.live self.old.power self.new.power 2 2 }
     {
@@ -113,8 +115,8 @@ impl Remaining {
         let alpha = self.form.linear(a) as u8;
         let beta = self.form.linear(b) as u8;
         self.form.add_phase(alpha & beta);
-        self.form.add_parity(alpha, v);
-        self.form.add_parity(beta, u);
+        self.form.add_parity(alpha / 2, v);
+        self.form.add_parity(beta / 2, u);
         self.form.add_product(u, v);
         self.live = rest;
         self.power += 2;

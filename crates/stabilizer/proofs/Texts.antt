@@ -221,13 +221,6 @@ module _ (n : ℕ) (text : List ℕ) (e : length text ≡ n + 1) where
   number_is : (o : Option Pauli) → pauli_of text ≡ o → text_number n text ≡ read_number o
   number_is o q = cond-true _ (read_number (pauli_of text)) 11 long ∙ ap read_number q
 
-  pub sign-bad : quarters_of (sign_of (get_or text 0 0)) ≡ None → 12 ≡ text_number n text
-  sign-bad q = sym (number_is None (text-parts text some ∙ go (sign_of (get_or text 0 0)) q))
-    where
-      go : (o : Option ℕ) → quarters_of o ≡ None → signed o (letters_of (drop 1 text)) ≡ None
-      go (Some a) q = let z : ◌≡◌ {A = ℕ} 0 1 = cc in absurd (omega arith)
-      go None q = refl
-
   pub letters-bad : (r : Refusal) → MaskedLetters (Err r) (letters_of (drop 1 text)) → number_of r ≡ text_number n text
   letters-bad r h = go (letters_of (drop 1 text)) refl h
     where

@@ -9,6 +9,23 @@ gate_numbered kind =
     cond (kind == 1) (Some X) (cond (kind == 2) (Some Z) (cond (kind == 3) (Some S)
     (cond (kind == 4) (Some SDagger) (cond (kind == 5) (Some CNot) (cond (kind == 6) (Some CZ) None)))))
 
+abbrev pub number_of : Gate → ℕ
+number_of X = 1
+number_of Z = 2
+number_of S = 3
+number_of SDagger = 4
+number_of CNot = 5
+number_of CZ = 6
+
+-- S and S† are each other's inverse, and every other gate is its own
+abbrev pub inverse_of : Gate → Gate
+inverse_of X = X
+inverse_of Z = Z
+inverse_of S = SDagger
+inverse_of SDagger = S
+inverse_of CNot = CNot
+inverse_of CZ = CZ
+
 abbrev pub is_qubit : ℕ → ℕ → Bool
 is_qubit n j = nat_le 1 j && nat_le j n
 

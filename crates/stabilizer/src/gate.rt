@@ -1,21 +1,21 @@
 ghost use Rattle.std.specs.Prelude.{◌≡◌, ◌^◌, ◌<◌, ◌≤◌};
 ghost use Rattle.std.specs.Option.{ok_or};
 ghost use Rattle.cyclotomic.specs.declared.refusal.Refusal.TheVariants.{Kind};
-ghost use Rattle.stabilizer.specs.Gates.{gate_numbered, takes as taken_by};
+ghost use Rattle.stabilizer.specs.Gates.{gate_numbered, inverse_of, number_of, takes as taken_by};
 ghost use Rattle.stabilizer.specs.Moved.{Placed, Moved};
 
 use cyclotomic::refusal::Refusal;
 use quadratic::phased::PhasedSpace;
 
-// The gates, in the order of their numbers from 1 on.
+// The gates, with their numbers.
 #[derive(Clone, Copy, Debug, PartialEq, Eq)]
 pub enum Gate {
-    X,
-    Z,
-    S,
-    SDagger,
-    CNot,
-    CZ,
+    X = 1,
+    Z = 2,
+    S = 3,
+    SDagger = 4,
+    CNot = 5,
+    CZ = 6,
 }
 
 impl TryFrom<u64> for Gate {
@@ -37,6 +37,24 @@ impl TryFrom<u64> for Gate {
 }
 
 impl Gate {
+    // The number that stands for the gate in every call.
+    pub fn number(self) -> u64
+        ensures { result ≡ number_of self }
+    {
+        self as u64
+    }
+
+    // The gate with the inverse matrix.
+    pub fn inverse(self) -> Gate
+        ensures { result ≡ inverse_of self }
+    {
+        match self {
+            Gate::S => Gate::SDagger,
+            Gate::SDagger => Gate::S,
+            own => own,
+        }
+    }
+
     // Whether the gate acts on these qubits of so many; a gate of one qubit has 0 for the second.
     pub fn takes(self, qubits: u64, j: u64, l: u64) -> bool
         ensures { result ≡ taken_by self qubits j l }
@@ -48,7 +66,8 @@ impl Gate {
         }
     }
 
-    // Applies the gate's matrix, with its qubits at the positions a and b of a string.
+    // Applies the gate's matrix, with its qubits at the positions a and b of a string. By cases: the gates are closed, and each asks
+    // for another call.
     pub(crate) fn apply(self, body: &mut PhasedSpace, a: usize, b: usize)
         requires { Placed self a b }
         ensures { Moved self a b body.old body.new }

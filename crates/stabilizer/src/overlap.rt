@@ -9,6 +9,7 @@ use quadratic::intersection::Intersection;
 use quadratic::sum::exponential_sum;
 
 // Writes the intersection of two states: the strings that are in both spaces, each with the phase of s less that of t.
+// A rule of the project: a call writes in place and, refused, leaves it as it was.
 pub fn intersect(
     out: &mut Intersection,
     t: &StabilizerState,
@@ -28,7 +29,7 @@ pub fn intersect(
     Ok(())
 }
 
-// Writes the intersection of two states, and answers their overlap.
+// Writes the intersection of two states, by the same rule, and answers their overlap.
 pub fn overlap_into(
     out: &mut Intersection,
     t: &StabilizerState,
@@ -41,10 +42,11 @@ pub fn overlap_into(
 {
     intersect(out, t, s)?;
     let sum = exponential_sum(out);
-    if sum.epsilon() == 0 {
+    // by its parts: a method on `Scalar` would have to say what it does past the ends of 64 bits
+    let Some((power, turn)) = sum.parts() else {
         return Ok(sum);
-    }
-    Ok(Scalar::term(sum.power() - (t.depth() + s.depth()) as i64, sum.turn()))
+    };
+    Ok(Scalar::term(power - (t.depth() + s.depth()) as i64, turn))
 }
 
 // The overlap of t and s: the sum over all strings of the conjugate of t's amplitude times that of s.

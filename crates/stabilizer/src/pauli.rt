@@ -28,11 +28,14 @@ impl PauliMasks {
         ensures number { answer_of result ≡ text_number qubits text.now }
         ensures masks { Masked result (pauli_of text.now) }
     {
-        if text.len() as u64 != qubits + 1 {
+        let [sign, letters @ ..] = text else {
+            return Err(Refusal::TextLength);
+        };
+        if letters.len() as u64 != qubits {
             return Err(Refusal::TextLength);
         }
-        let turned = sign_quarters(text[0]).ok_or(Refusal::Letter)?;
-        let masks = PauliMasks::read_letters(&text[1..])?;
+        let turned = sign_quarters(*sign).ok_or(Refusal::Letter)?;
+        let masks = PauliMasks::read_letters(letters)?;
         Ok(PauliMasks {
             quarters: masks.quarters + turned,
             ..masks
@@ -80,16 +83,16 @@ impl PauliMasks {
         requires { self.now.flips < 2 ^ 48 }
         ensures { Effected result self.now body.old body.new }
     {
-        let Some((turns, mask)) = body.factor_along(self.flips, self.signs) else {
+        let Some(turn) = body.factor_along(self.flips, self.signs) else {
             let _ = body.extend(self.flips, self.quarters, self.signs);
             return Outcome::Restricted;
         };
         // 1 + i is √2 ω, and 1 - i is √2 ω^7
-        match (self.quarters % 4 + turns) % 4 {
-            0 => body.restrict(mask, false),
-            1 => turned(body, 1, 3, mask),
-            2 => body.restrict(mask, true),
-            _ => turned(body, 7, 1, mask),
+        match (self.quarters % 4 + turn.quarters) % 4 {
+            0 => body.restrict(turn.mask, false),
+            1 => turned(body, 1, 3, turn.mask),
+            2 => body.restrict(turn.mask, true),
+            _ => turned(body, 7, 1, turn.mask),
         }
     }
 }

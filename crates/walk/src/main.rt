@@ -4,6 +4,8 @@
 
 use circuit::call::Call;
 use circuit::division::split;
+use listing::comparison::Mark;
+use stabilizer::gate::Gate;
 use stabilizer::state::StabilizerState;
 
 const QUBITS: u64 = 3;
@@ -21,11 +23,7 @@ fn main(rt: HostRuntime) -> anyhow::Result<()> {
     for place in 0..=calls.len() as u64 {
         match split(&s, &t, &calls, place) {
             Ok(Some(scalar)) => {
-                let mark = if first.get_or_insert(scalar).same(&scalar) {
-                    "="
-                } else {
-                    "."
-                };
+                let mark = Mark(first.get_or_insert(scalar).same(&scalar));
                 println!(rt; "{place}: {scalar} {mark}")?;
             }
             Ok(None) => println!(rt; "{place}: aside")?,
@@ -38,20 +36,20 @@ fn main(rt: HostRuntime) -> anyhow::Result<()> {
 // Three qubits are entangled, turned, and taken apart again; the call that no qubit fits counts as none.
 fn push_calls(calls: &mut Vec<Call>) -> anyhow::Result<()> {
     push_projection(calls, b"+XII")?;
-    push_gate(calls, 5, 1, 2)?;
-    push_gate(calls, 5, 2, 3)?;
-    push_gate(calls, 3, 3, 0)?;
-    push_gate(calls, 1, 4, 0)?;
-    push_gate(calls, 6, 1, 3)?;
+    push_gate(calls, Gate::CNot, 1, 2)?;
+    push_gate(calls, Gate::CNot, 2, 3)?;
+    push_gate(calls, Gate::S, 3, 0)?;
+    push_gate(calls, Gate::X, 4, 0)?;
+    push_gate(calls, Gate::CZ, 1, 3)?;
     push_projection(calls, b"-IYX")?;
-    push_gate(calls, 4, 2, 0)?;
-    push_gate(calls, 2, 1, 0)?;
+    push_gate(calls, Gate::SDagger, 2, 0)?;
+    push_gate(calls, Gate::Z, 1, 0)?;
     push_projection(calls, b"+XXI")
 }
 
-fn push_gate(calls: &mut Vec<Call>, kind: u64, first: u64, second: u64) -> anyhow::Result<()> {
+fn push_gate(calls: &mut Vec<Call>, gate: Gate, first: u64, second: u64) -> anyhow::Result<()> {
     calls.push(Call::Gate {
-        kind,
+        kind: gate.number(),
         first,
         second,
     })?;

@@ -1,5 +1,6 @@
 // Worked examples, run.
 use archive::codec::{read, write};
+use archive::fault::Fault;
 use cyclotomic::refusal::Refusal;
 use listing::sheets::{Document, Listing};
 use stabilizer::overlap::overlap;

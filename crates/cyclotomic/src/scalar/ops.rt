@@ -34,6 +34,13 @@ impl Scalar {
         }
     }
 
+    // The power and the turn; none for the number 0.
+    pub fn parts(&self) -> Option<(i64, u64)>
+        ensures { MatchOption result (triple_of self.now ≡ nought) (λ parts. triple_of self.now ≡ (1, parts.0, parts.1)) }
+    {
+        self.term.map(|term| (term.power, term.turn))
+    }
+
     pub fn epsilon(&self) -> u64
         ensures { result ≡ (triple_of self.now).0 }
     {

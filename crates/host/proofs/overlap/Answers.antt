@@ -1,5 +1,4 @@
-use Rattle.std.proofs.Common.{◌≡◌, ℕ, ◌+◌, ◌-◌, ◌<◌, ◌≤◌, List, ◌++◌, length, get_or, drop, sym, refl, ap, ◌∙◌, arith, length-take-le}
-use Rattle.std.proofs.Math.ListN.{get_or-append}
+use Rattle.std.proofs.Common.{◌≡◌, ℕ, ◌+◌, ◌-◌, ◌≤◌, List, ◌++◌, length, get_or, drop, sym, refl, ap, ◌∙◌, arith, length-take-le}
 use Rattle.std.proofs.lemmas.List.{get_or-append_right, get_or-drop}
 use Rattle.cyclotomic.specs.Scalars.{triple_of}
 use Rattle.host.specs.Answers.{word_of, bytes_of}
@@ -7,9 +6,6 @@ use Rattle.host.proofs.overlap.Goals as goal
 
 -- four bytes at the start of a buffer
 module _ (new old bytes : List ℕ) (e : new ≡ bytes) (four : length bytes ≡ 4) where
-  front : (k : ℕ) → k < 4 → get_or (new ++ drop 4 old) k 0 ≡ get_or bytes k 0
-  front k l = rw e (get_or-append bytes (drop 4 old) 0 k (omega arith))
-
   rest : (k : ℕ) → 4 ≤ k → get_or (new ++ drop 4 old) k 0 ≡ get_or old k 0
   rest k l =
       let there : 4 + (k - 4) ≡ k = omega arith in
@@ -19,14 +15,6 @@ pub copy_from_slice-requires : goal.copy_from_slice-requires
 copy_from_slice-requires c =
     let four = ap length c.packed.ensures in
     length-take-le 4 c.args.answer.now (omega arith) ∙ sym four
-
-pub returns-in-Ok-clause-granted : goal.returns-in-Ok-clause-granted
-returns-in-Ok-clause-granted c = λ zero. record {
-  scalar = c.in-Ok.x;
-  value = c.in-Ok.ensures.value;
-  front = front c.copy_from_slice.new.self c.args.answer.now _
-      (c.copy_from_slice.ensures.after ∙ c.packed.ensures) refl;
-}
 
 pub returns-in-Ok-clause-rest : goal.returns-in-Ok-clause-rest
 returns-in-Ok-clause-rest c =

@@ -71,6 +71,7 @@ impl AffineSpace {
         ensures below { result < 2 ^ 48 }
         ensures bits { (p : ℕ) → digit result p ≡ parity w (row self.now.rows p) }
     {
+        // by the pivots alone: with `odd_rows` of all 48 rows, where the others are 0, an overlap takes 24 to 97 percent more instructions
         let mut l = 0;
         for p in set_bits(self.pivots) {
             l ^= dot(w, self.rows[p]) << p;
@@ -95,7 +96,7 @@ impl AffineSpace {
         turned(self.column(i), i)
     }
 
-    // For each position the pivots whose rows have a 1 there.
+    // For each position the pivots whose rows have a 1 there. By position, as the rows are, in fixed memory: a place is an index.
     pub(crate) fn columns(&self) -> [u64; 48]
         ensures below { (i : ℕ) → row result i < 2 ^ 48 }
         ensures bits { (i p : ℕ) → digit (row result i) p ≡ digit (row self.now.rows p) i }
@@ -108,19 +109,18 @@ impl AffineSpace {
     }
 
     // Keeps the strings whose parity with l is beta, for l inside the pivots and p its lowest bit: row p goes.
-    pub(crate) fn cut(&mut self, l: u64, p: usize, beta: u64)
+    pub(crate) fn cut(&mut self, l: u64, p: usize, beta: bool)
         requires place { p < 48 }
         requires low { l < 2 ^ 48 }
         requires part { bit_and l self.old.pivots ≡ l }
         requires on { digit l p ≡ 1 }
         requires least { (q : ℕ) → q < p → digit l q ≡ 0 }
-        requires small { beta < 2 }
         ensures pivots { self.new.pivots ≡ bit_xor self.old.pivots (2 ^ p) }
-        ensures half { Half self.old self.new l beta }
+        ensures half { Half self.old self.new l (numeral beta) }
     {
         let gone = self.rows[p];
         xor_rows(&mut self.rows, l, gone);
-        self.shift ^= beta * gone;
+        self.shift ^= u64::from(beta) * gone;
         self.pivots = turned(self.pivots, p);
     }
 
@@ -130,12 +130,12 @@ impl AffineSpace {
         ensures pivots { OneLess result self.old.pivots self.new.pivots }
     {
         let l = self.responses(w);
-        let beta = dot(w, self.shift) ^ u64::from(b);
+        let beta = (dot(w, self.shift) == 1) != b;
         if l == 0 {
-            return if beta == 0 {
-                Outcome::Unchanged
-            } else {
+            return if beta {
                 Outcome::Empty
+            } else {
+                Outcome::Unchanged
             };
         }
         self.cut(l, lowest(l), beta);
@@ -220,7 +220,7 @@ impl AffineSpace {
         Some(p)
     }
 
-    // Another shift, where it is 0 at every pivot.
+    // Another shift, where it is 0 at every pivot; false where it is not, as a set's `insert` answers.
     pub(crate) fn set_shift(&mut self, shift: u64) -> bool
         ensures { Shifted result self.old self.new shift }
     {

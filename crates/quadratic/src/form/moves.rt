@@ -1,23 +1,21 @@
-ghost use Rattle.std.specs.Prelude.{◌≡◌, ℕ, ◌+◌, ◌*◌, ◌%◌, ◌^◌, ◌<◌, ◌≤◌, bit_xor};
-ghost use Rattle.quadratic.specs.Bits.{dot as parity};
+ghost use Rattle.std.specs.Prelude.{◌≡◌, ℕ, ◌+◌, ◌*◌, ◌%◌, ◌^◌, ◌<◌, bit_xor};
+ghost use Rattle.quadratic.specs.Bits.{dot as parity, flag as numeral};
 ghost use Rattle.quadratic.specs.Value.{value_at};
 
 use super::QuadraticForm;
 use crate::bits::odd_rows;
 
 impl QuadraticForm {
-    // Adds `times`, one of 0, 2, 4 and 6, where the parity of the mask is not `base`.
-    pub(crate) fn add_affine(&mut self, times: u8, base: u64, mask: u64)
-        requires low { mask < 2 ^ 48 }
-        requires even { (times ≤ 6) × (times % 2 ≡ 0) }
-        requires small { base < 2 }
-        ensures { (c : ℕ) → value_at self.new c ≡ (value_at self.old c + times * bit_xor base (parity mask c)) % 8 }
+    // Adds 2 * quarters where the parity of the mask is not `base`.
+    pub(crate) fn add_affine(&mut self, quarters: u8, base: bool, mask: u64)
+        requires { mask < 2 ^ 48 }
+        ensures { (c : ℕ) → value_at self.new c ≡ (value_at self.old c + 2 * quarters * bit_xor (numeral base) (parity mask c)) % 8 }
     {
-        if base == 0 {
-            self.add_parity(times, mask);
+        if base {
+            self.add_phase(2 * (quarters % 4));
+            self.add_parity(4 - quarters % 4, mask);
         } else {
-            self.add_phase(times);
-            self.add_parity((8 - times) % 8, mask);
+            self.add_parity(quarters, mask);
         }
     }
 

@@ -1,5 +1,5 @@
 ghost use Rattle.std.specs.Prelude.{◌≡◌, ℕ, ◌+◌, ◌*◌, ◌%◌, ◌^◌, ◌<◌, ◌≤◌, T, bit_xor, slice_index};
-ghost use Rattle.quadratic.specs.Bits.{bit as digit, dot as parity};
+ghost use Rattle.quadratic.specs.Bits.{bit as digit, dot as parity, flag as numeral};
 ghost use Rattle.quadratic.specs.Quadratic.{coef, link};
 ghost use Rattle.quadratic.specs.Value.{value_at};
 
@@ -39,25 +39,23 @@ impl QuadraticForm {
         xor_rows(&mut self.coupling, mask, mask);
     }
 
-    // Adds `times`, one of 0, 2, 4 and 6, times the parity of the mask.
-    pub(crate) fn add_parity(&mut self, times: u8, mask: u64)
-        requires mask_bound { mask < 2 ^ 48 }
-        requires times_bound { (times ≤ 6) × (times % 2 ≡ 0) }
-        ensures { (c : ℕ) → value_at self.new c ≡ (value_at self.old c + times * parity mask c) % 8 }
+    // Adds 2 * quarters times the parity of the mask.
+    pub(crate) fn add_parity(&mut self, quarters: u8, mask: u64)
+        requires { mask < 2 ^ 48 }
+        ensures { (c : ℕ) → value_at self.new c ≡ (value_at self.old c + 2 * quarters * parity mask c) % 8 }
     {
-        if times == 2 {
+        if quarters % 2 == 1 {
             self.add_two(mask);
-        } else if times == 4 {
-            self.add_four(mask);
-        } else if times == 6 {
-            self.add_two(mask);
+        }
+        if quarters / 2 % 2 == 1 {
             self.add_four(mask);
         }
     }
 
     // Adds 4 times the product of the parities of u and v.
     pub(crate) fn add_product(&mut self, u: u64, v: u64)
-        requires { (u < 2 ^ 48) × (v < 2 ^ 48) }
+        requires first { u < 2 ^ 48 }
+        requires second { v < 2 ^ 48 }
         ensures { (c : ℕ) → value_at self.new c ≡ (value_at self.old c + 4 * (parity u c * parity v c)) % 8 }
     {
         self.neg ^= u & v;
@@ -176,24 +174,23 @@ impl QuadraticForm {
         ensures values { (c : ℕ) → digit c a ≡ parity mask c → value_at self.new c ≡ value_at self.old c }
         ensures free { (c : ℕ) → value_at self.new (bit_xor c (2 ^ a)) ≡ value_at self.new c }
     {
-        let times = self.linear(a) as u8;
+        let quarters = (self.linear(a) / 2) as u8;
         let row = self.coupling[a];
         let rest = row ^ (row & (1 << a));
         self.clear(a);
-        self.add_parity(times, mask);
+        self.add_parity(quarters, mask);
         self.add_product(mask, rest);
     }
 
-    // Puts beta and the parity of the mask in the place of variable a.
-    pub(crate) fn fix(&mut self, a: usize, mask: u64, beta: u64)
+    // Puts the sum of b and the parity of the mask in the place of variable a.
+    pub(crate) fn fix(&mut self, a: usize, mask: u64, b: bool)
         requires place { a < 48 }
         requires low { mask < 2 ^ 48 }
         requires free { digit mask a ≡ 0 }
-        requires small { beta < 2 }
         ensures { (c : ℕ) → value_at self.new c
-            ≡ value_at self.old (bit_xor c (bit_xor (digit c a) (bit_xor (parity mask c) beta) * 2 ^ a)) }
+            ≡ value_at self.old (bit_xor c (bit_xor (digit c a) (bit_xor (parity mask c) (numeral b)) * 2 ^ a)) }
     {
-        if beta == 1 {
+        if b {
             self.flip(a);
         }
         self.substitute(a, mask);

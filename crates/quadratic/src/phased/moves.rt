@@ -5,12 +5,13 @@ ghost use Rattle.quadratic.specs.Moves.{Turned, Kept, Flipped, Outside, Along, G
 ghost use Rattle.quadratic.specs.Strings.{Doubled};
 ghost use Rattle.quadratic.specs.Value.{value_at};
 
-use super::PhasedSpace;
 use super::ops::settle;
+use super::{PhasedSpace, Turn};
 use crate::affine::Outcome;
 use crate::bits::{bit, dot, highest, turned};
 
-// A move answers false where it can't be made, as a set's `insert` does, and then leaves the space as it was.
+// A move answers false where it can't be made, as a set's `insert` does, and then leaves the space as it was. No caller hands that answer
+// on, so an Option or a Result would be no plainer.
 impl PhasedSpace {
     // Keeps the strings whose parity with w is b.
     pub fn restrict(&mut self, w: u64, b: bool) -> Outcome
@@ -35,21 +36,21 @@ impl PhasedSpace {
         self.form.add_phase(k % 8);
     }
 
-    // Adds 2 * quarters where the parity with w is not `base`.
-    pub(crate) fn add_affine(&mut self, quarters: u8, base: u64, w: u64)
-        requires { base < 2 }
-        ensures { Turned self.old self.new (λ y. 2 * quarters * bit_xor base (parity w y)) }
+    // Adds 2 * quarters where the parity with w is not `base`. The two are arguments and no struct: each caller has them apart, and they are
+    // parted again here.
+    pub(crate) fn add_affine(&mut self, quarters: u8, base: bool, w: u64)
+        ensures { Turned self.old self.new (λ y. 2 * quarters * bit_xor (numeral base) (parity w y)) }
     {
         let l = self.space.responses(w);
-        let here = base ^ dot(w, self.space.shift());
-        self.form.add_affine(2 * (quarters % 4), here, l);
+        let here = base != (dot(w, self.space.shift()) == 1);
+        self.form.add_affine(quarters, here, l);
     }
 
     // Adds 2 * quarters where the parity with w is odd.
     pub fn add_parity(&mut self, quarters: u8, w: u64)
         ensures { Turned self.old self.new (λ y. 2 * quarters * parity w y) }
     {
-        self.add_affine(quarters, 0, w);
+        self.add_affine(quarters, false, w);
     }
 
     // Adds 4 where the parities with u and v are both odd.
@@ -61,8 +62,8 @@ impl PhasedSpace {
         let a = dot(u, self.space.shift());
         let b = dot(v, self.space.shift());
         self.form.add_product(l, m);
-        self.form.add_affine(4 * a as u8, b, m);
-        self.form.add_parity(4 * b as u8, l);
+        self.form.add_affine(2 * a as u8, b == 1, m);
+        self.form.add_parity(2 * b as u8, l);
     }
 
     // Turns bit i of every string over; false past the last bit.
@@ -77,22 +78,23 @@ impl PhasedSpace {
         true
     }
 
-    // What the form, and 4 times the parity with z, gain where d is added: 2 times the first, and 4 times the parity with the second.
-    pub(crate) fn gain(&self, d: u64, z: u64) -> (u8, u64)
-        ensures small { result.0 < 4 }
-        ensures law { (c : ℕ) → (value_at self.now.form (bit_xor c d) + 4 * parity z (bit_xor c d)) % 8
-            ≡ (value_at self.now.form c + (2 * result.0 + 4 * parity result.1 c)) % 8 }
+    // What the form, and 4 times the parity with z, gain where d is added.
+    pub(crate) fn gain(&self, d: u64, z: u64) -> Turn
+        ensures { (c : ℕ) → (value_at self.now.form (bit_xor c d) + 4 * parity z (bit_xor c d)) % 8
+            ≡ (value_at self.now.form c + (2 * result.quarters + 4 * parity result.mask c)) % 8 }
     {
         let u = d & self.space.pivots();
         let quarters = (self.form.value(u) + 8 - self.form.value(0)) % 8 / 2;
         let mask = self.form.polar(u) & self.space.pivots();
-        ((quarters + 2 * dot(z, d) as u8) % 4, mask ^ z)
+        Turn {
+            quarters: (quarters + 2 * dot(z, d) as u8) % 4,
+            mask: mask ^ z,
+        }
     }
 
-    // By what the phases, and 4 times the parity with z, turn along a combination f of rows: 2 times the first, and 4 times the
-    // parity with the second; None where f is no such combination.
-    pub fn factor_along(&self, f: u64, z: u64) -> Option<(u8, u64)>
-        ensures { MatchOption result (Outside self.now f) (λ k. (k.0 < 4) × Along self.now f z k.0 k.1) }
+    // By what the phases, and 4 times the parity with z, turn along a combination f of rows; None where f is no such combination.
+    pub fn factor_along(&self, f: u64, z: u64) -> Option<Turn>
+        ensures { MatchOption result (Outside self.now f) (λ turn. Along self.now f z turn.quarters turn.mask) }
     {
         if self.space.rest(f) != 0 {
             return None;
@@ -101,13 +103,12 @@ impl PhasedSpace {
     }
 
     // Adds 2 * quarters, and 4 times the parity with n, where the parity with w is not `base`.
-    pub(crate) fn add_across(&mut self, quarters: u8, base: u64, w: u64, n: u64)
-        requires { base < 2 }
-        ensures { Turned self.old self.new (λ y. bit_xor base (parity w y) * (2 * quarters + 4 * parity n y)) }
+    pub(crate) fn add_across(&mut self, quarters: u8, base: bool, w: u64, n: u64)
+        ensures { Turned self.old self.new (λ y. bit_xor (numeral base) (parity w y) * (2 * quarters + 4 * parity n y)) }
     {
         self.add_affine(quarters, base, w);
         self.add_product(w, n);
-        self.add_parity(2 * base as u8, n);
+        self.add_parity(2 * u8::from(base), n);
     }
 
     // One row more, with no bit at a pivot, and its highest bit at p: the form stays.
@@ -137,10 +138,10 @@ impl PhasedSpace {
             return false;
         }
         let w = self.space.check(p);
-        let base = bit(self.space.shift(), p);
-        let (turns, n) = self.gain(d, z);
+        let base = bit(self.space.shift(), p) == 1;
+        let turn = self.gain(d, z);
         self.insert(rest, p);
-        self.add_across(quarters % 4 + turns, base, w, n);
+        self.add_across(quarters % 4 + turn.quarters, base, w, turn.mask);
         true
     }
 
@@ -168,10 +169,10 @@ impl PhasedSpace {
         if j >= 48 || l >= 48 || j == l {
             return false;
         }
-        if let Some((quarters, lambda)) = self.factor_along(turned(0, l), 0) {
+        if let Some(turn) = self.factor_along(turned(0, l), 0) {
             let control = turned(0, j);
-            self.add_parity(quarters, control);
-            self.add_product(control, lambda);
+            self.add_parity(turn.quarters, control);
+            self.add_product(control, turn.mask);
             return true;
         }
         self.slide(j, l);

@@ -31,25 +31,25 @@ impl PhasedSpace {
         self.space.append(row)
     }
 
-    // Another shift, where it is 0 at every pivot.
+    // Another shift, where it is 0 at every pivot; false where it is not, as a set's `insert` answers.
     pub fn set_shift(&mut self, shift: u64) -> bool
         ensures { Reshifted result self.old self.new shift }
     {
         self.space.set_shift(shift)
     }
 
-    // Adds an even number to the linear coefficient of the row with the pivot p, if there is one.
+    // Adds an even number to the linear coefficient of the row with the pivot p; false where there is none, as a set's `insert` answers.
     pub fn add_linear(&mut self, p: usize, times: u64) -> bool
         ensures { LinearAdded result self.old self.new p times }
     {
         if !self.space.is_pivot(p) || times > 6 || times % 2 == 1 {
             return false;
         }
-        self.form.add_parity(times as u8, turned(0, p));
+        self.form.add_parity((times / 2) as u8, turned(0, p));
         true
     }
 
-    // Turns over the coupling of the rows with the pivots p and q, if there are two such rows.
+    // Turns over the coupling of the rows with the pivots p and q; false where there are no two such rows, as a set's `insert` answers.
     pub fn couple(&mut self, p: usize, q: usize) -> bool
         ensures { Coupled result self.old self.new p q }
     {
@@ -195,6 +195,6 @@ pub(crate) fn settle(form: &mut QuadraticForm, space: &AffineSpace, gone: u64)
     }
     let columns = space.columns();
     for i in set_bits(gone) {
-        form.fix(i, columns[i], bit(space.shift(), i));
+        form.fix(i, columns[i], bit(space.shift(), i) == 1);
     }
 }

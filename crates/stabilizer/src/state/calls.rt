@@ -13,7 +13,8 @@ use quadratic::affine::Outcome;
 const MOST: u64 = 4096;
 
 impl StabilizerState {
-    // Applies the gate with a number from 1 to 6 to the qubits j and l; l is 0 for a gate of one qubit.
+    // Applies the gate with a number from 1 to 6 to the qubits j and l; l is 0 for a gate of one qubit. It takes a number and no `Gate`,
+    // since any number may be handed over, and one that no gate has is refused.
     pub fn gate(&mut self, kind: u64, j: u64, l: u64) -> Result<(), Refusal>
         ensures { Gated kind j l self.old (answer_of result) self.new }
     {

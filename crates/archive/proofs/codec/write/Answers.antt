@@ -1,51 +1,12 @@
-use Rattle.std.proofs.Common.{◌≡◌, ℕ, ◌*◌, ◌/◌, ◌<◌, ◌≤◌, List, length, get_or, take, ap, ◌∙◌, subst, ap₂, arith, rules}
-use lib.Count.{ones, ones-le}
-use Rattle.stabilizer.specs.declared.state.StabilizerState.{StabilizerState}
+use Rattle.std.proofs.Common.{◌≡◌, ℕ, ◌*◌, ◌/◌, ◌<◌, ◌≤◌, length, get_or, take, sym, ap, ◌∙◌, subst, ap₂, arith, rules}
+use lib.Count.{ones}
 use Rattle.archive.specs.Layout.{bits_before_fill, padded}
 use Rattle.archive.specs.Writes.{Falling, RunOf}
 use Rattle.archive.proofs.Alike.{telling}
 use Rattle.archive.proofs.Laws.{bytes_take}
 use Rattle.archive.proofs.Numbered.{laid_out}
-use Rattle.archive.proofs.Written.{fields-low, encoded, bytes_past}
+use Rattle.archive.proofs.Written.{encoded, bytes_past}
 use Rattle.archive.proofs.codec.write.Goals as goal
-
--- the pivots, as the state's own
-module _ (s : StabilizerState) (m : ℕ) (pivots xs : List ℕ) (em : m ≡ s.body.space.pivots) (ex : xs ≡ pivots)
-    (fall : Falling m (ones m) pivots) where
-  own : Falling s.body.space.pivots (length xs) xs
-  own = rw (ex, fall.places) (subst (λ i. Falling i (ones m) pivots) em fall)
-
-  count : length xs ≡ ones s.body.space.pivots
-  count = ap length ex ∙ fall.places ∙ ap ones em
-
-  few : length xs ≤ s.qubits
-  few = rw count (ones-le s.qubits s.body.space.pivots s.inside)
-
-pub bit_count-requires : goal.bit_count-requires
-bit_count-requires c =
-    let s = c.args.state.now in
-    let em = c.pivots.ensures ∙ ap (λ t. t.space.pivots) c.body.ensures in
-    record {
-      few = omega (arith, s.few, c.qubits-n.ensures);
-      fewer = omega (arith, few s _ _ _ em c.as_slice-pivots.ensures c.of_mask-pivots.ensures, c.qubits-n.ensures);
-    }
-
-pub put_fields-requires : goal.put_fields-requires
-put_fields-requires c =
-    let s = c.args.state.now in
-    let em = c.pivots.ensures ∙ ap (λ t. t.space.pivots) c.body.ensures in
-    let ex = c.as_slice-pivots.ensures in
-    let fall = c.of_mask-pivots.ensures in
-    let low = fields-low s c.qubits-n.result _ _ c.body-2.result.now c.qubits-n.ensures c.body-2.ensures
-    (own s _ _ _ em ex fall) in
-    record {
-      few = omega (arith, s.few, c.qubits-n.ensures);
-      fewer = omega (arith, few s _ _ _ em ex fall, c.qubits-n.ensures);
-      weight = omega (arith, s.light, c.loss.ensures);
-      room = omega (arith, c.bit_count.ensures.count, c.div_ceil-length.ensures, c.if-buffer-length.false);
-      rows = low.0;
-      shift = low.1;
-    }
 
 eighth : (m q : ℕ) → 8 * m ≡ q → m ≡ q / 8
 eighth m q e = omega arith
@@ -53,25 +14,24 @@ eighth m q e = omega arith
 pub returns : goal.returns
 returns c =
     let s = c.args.state.now in
-    let b = c.put_fields.new.buffer in
-    let n = c.qubits-n.result in
-    let xs = c.as_slice-pivots.result.now in
-    let k = length xs in
+    let f = c.of-fields.result in
+    let es = c.of-fields.ensures.same in
+    let b = c.put.new.buffer in
+    let n = f.shape.n in
+    let k = f.shape.k in
+    let xs = f.pivots.items in
     let m = c.div_ceil-length.result in
-    let em = c.pivots.ensures ∙ ap (λ t. t.space.pivots) c.body.ensures in
-    let ex = c.as_slice-pivots.ensures in
-    let fall = c.of_mask-pivots.ensures in
-    let en = c.qubits-n.ensures in
-    let ek = count s _ _ _ em ex fall in
-    let size : 8 * m ≡ padded (bits_before_fill n k) = omega (arith, c.bit_count.ensures.count, c.div_ceil-length.ensures) in
+    let en : n ≡ s.qubits = f.size ∙ ap (λ t. t.qubits) es in
+    let ek : k ≡ ones s.body.space.pivots = f.rank ∙ c.of-fields.ensures.pivots.places in
+    let fall : Falling s.body.space.pivots k xs = subst (λ i. Falling s.body.space.pivots i xs) (sym ek) c.of-fields.ensures.pivots in
+    let bits = c.bit_count.ensures in
+    let div = c.div_ceil-length.ensures in
+    let size : 8 * m ≡ padded (bits_before_fill n k) = omega (arith, bits.count, div) in
     let old : (i : ℕ) → get_or c.args.buffer.now i 0 < 256 = λ i. search rules in
     let new : (i : ℕ) → get_or b i 0 < 256 = λ i. omega (arith, c.type_inv.buffer i) in
     let room : m ≤ length b = omega (arith, c.if-buffer-length.false) in
-    let bits = c.bit_count.ensures in
-    let div = c.div_ceil-length.ensures in
-    let put = encoded s b m n k c.loss.result xs c.body-2.result.now en c.loss.ensures c.body-2.ensures ek
-    (own s _ _ _ em ex fall) size room
-    c.put_fields.ensures.header c.put_fields.ensures.rows c.put_fields.ensures.form c.put_fields.ensures.fill in
+    let put = encoded s b m n k f.state.now.loss xs f.state.now.body en (ap (λ t. t.loss) es) (ap (λ t. t.body) es) ek fall size room
+    c.put.ensures.header c.put.ensures.rows c.put.ensures.form c.put.ensures.fill in
     let run : RunOf s (take m b) = record { sound = put.0; holds = put.1; bytes = bytes_take b m new } in
     record {
       length = eighth m _ (size ∙ ap₂ (λ x y. padded (bits_before_fill x y)) en ek);
@@ -81,5 +41,5 @@ returns c =
       bytes = run;
       layout = laid_out s (take m b) put.0 put.1;
       telling = telling s (take m b) run;
-      past = bytes_past c.args.buffer.now b m _ old new size c.put_fields.ensures.framed;
+      past = bytes_past c.args.buffer.now b m _ old new size c.put.ensures.framed;
     }

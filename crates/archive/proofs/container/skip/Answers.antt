@@ -9,19 +9,6 @@ use Rattle.archive.proofs.container.skip.Goals as goal
 left-more : (b : List ℕ) (i m : ℕ) → i < m → states_fault b i (m - i) ≡ states_fault b i (suc (m - (i + 1)))
 left-more b i m h = let e : m - i ≡ suc (m - (i + 1)) = omega arith in ap (states_fault b i) e
 
-pub loop-i-init : goal.loop-i-init
-loop-i-init c =
-    let all : c.args.m ≡ c.args.done + c.args.m - c.args.done = omega arith in
-    record {
-      place = c.requires.place;
-      near = c.requires.near;
-      inside = c.requires.inside;
-      left = ap (states_fault c.args.archive.now c.args.done) all;
-    }
-
-pub sheet_end-requires : goal.sheet_end-requires
-sheet_end-requires c = omega (arith, c.loop-i.invariant.near)
-
 pub loop-i-preserved : goal.loop-i-preserved
 loop-i-preserved c =
     let b = c.args.archive.now in

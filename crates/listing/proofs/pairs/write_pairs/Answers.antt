@@ -1,6 +1,8 @@
-use Rattle.std.proofs.Common.{ℕ, ◌+◌, ◌≤◌, inl, inr, length, arith}
+use Rattle.std.proofs.Common.{ℕ, ◌+◌, ◌≤◌, inl, inr, length, refl, sym, arith}
+use Rattle.std.proofs.lemmas.List.{take_rest}
+use Rattle.std.proofs.lemmas.Option.{slice_get_read}
 use Rattle.listing.specs.Pairs.{IsPair, IsPairOf}
-use Rattle.listing.proofs.Numbered.{Joined, Writes-append, Writes-nil, Writes-same}
+use Rattle.listing.proofs.Numbered.{Joined, Writes-append, Writes-nil}
 use Rattle.listing.proofs.pairs.write_pairs.Goals as goal
 
 -- the pairs of n numbers whose first number is at most i
@@ -25,10 +27,8 @@ loop-i-preserved g c =
     let n = length c.args.states.now in
     let i = c.loop-i.i in
     Writes-append g.T.OfPair.text g.T.OfPair.tells _ (UpTo n i) (IsPairOf (i + 1) n) (UpTo n (i + 1))
-    _ _ _ (next n i) c.loop-i.invariant c.in_ok-write_pairs_of.ensures
-
-pub returns : goal.returns
-returns g c =
-    let n = length c.args.states.now in
-    Writes-same g.T.OfPair.text g.T.OfPair.tells _ (UpTo n c.loop-i.i) (IsPair n) _ _
-    (λ p h. h.0) (λ p h. (h, omega arith)) c.loop-i.invariant
+    _ _ _ (next n i) c.loop-i.invariant
+    (c.in_ok-write_pairs_of.ensures c.args.states.now (record {
+      at = slice_get_read c.args.states.now n i _ refl (omega arith) c.index-states-i.is;
+      rest = sym (take_rest c.args.states.now (i + 1));
+    }))

@@ -1,10 +1,7 @@
-use Rattle.std.proofs.Common.{◌≡◌, ◌+◌, ◌^◌, ◌≤◌}
+use Rattle.std.proofs.Common.{◌≡◌, ◌+◌}
 use Rattle.quadratic.specs.Numbering.{spread}
 use Rattle.quadratic.proofs.bits.deposit.Given as goal
 
--- what is put already, and what the positions that are left get
+-- what is put already, and what the places that are left get
 abbrev pub invariant-loop-p : goal.invariant-loop-p
-invariant-loop-p l = record {
-  parts : spread 48 l.mask l.c ≡ l.sum + spread l.p l.mask l.left;
-  room : l.sum + 2 ^ l.p ≤ 2 ^ 48;
-}
+invariant-loop-p l = spread 48 l.mask l.c ≡ l.sum + spread 48 l.p-iterator.iter.left l.left

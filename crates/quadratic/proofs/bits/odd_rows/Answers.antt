@@ -1,4 +1,4 @@
-use Rattle.std.proofs.Common.{◌≡◌, ℕ, ◌+◌, ◌^◌, ◌<◌, get_or, sym, subst, le_antisymm}
+use Rattle.std.proofs.Common.{ℕ, ◌+◌, get_or, sym, subst}
 use lib.Bits.{bit_xor}
 use Rattle.quadratic.specs.Bits.{dot}
 use Rattle.quadratic.proofs.Gather.{Filled, fill-more, placed}
@@ -11,11 +11,3 @@ loop-p-preserved c =
     let d = c.dot.ensures in
     subst (λ y. Filled f (p + 1) (bit_xor c.loop-p.odd y)) (sym (placed c.dot.result p d.small c.loop-p-test.true))
     (fill-more f p c.loop-p.odd c.dot.result d.small d.value c.loop-p.invariant)
-
-pub returns : goal.returns
-returns c =
-    let e : c.loop-p.p ≡ 48 = le_antisymm c.loop-p.auto.p-end c.loop-p-test.false in
-    record {
-      below = subst (λ n. c.loop-p.odd < 2 ^ n) e c.loop-p.invariant.below;
-      bits = λ p l. c.loop-p.invariant.bits p (rw e l);
-    }

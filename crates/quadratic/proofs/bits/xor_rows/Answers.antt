@@ -1,23 +1,10 @@
-use Rattle.std.proofs.Common.{◌≡◌, ◌*◌, ◌<◌, length, get_or, set, sym, refl, ap, ◌∙◌, ap₂, one-mul, zero-mul, arith, length-set, mod-eq_of_lt, get_or-set_other, get_or-set_same}
+use Rattle.std.proofs.Common.{◌*◌, ◌<◌, length, get_or, set, sym, ap, ◌∙◌, ap₂, one-mul, arith, length-set, get_or-set_other, get_or-set_same}
 use native.Mathlib.Decide.{ℕ_discrete}
-use lib.Bits.{bit_xor, xor_zero_r}
+use lib.Bits.{bit_xor}
 use Rattle.quadratic.specs.Bits.{bit, Lowest}
 use Rattle.quadratic.proofs.Bitlaws.{bit-zero}
 use Rattle.quadratic.proofs.Lowest.{gone-off, gone-other}
 use Rattle.quadratic.proofs.bits.xor_rows.Goals as goal
-
-pub loop-p-init : goal.loop-p-init
-loop-p-init c =
-    let t = c.args.table.now in
-    let mask = c.args.mask in
-    let e : c.into_iter-p-iterator.result.left ≡ c.args.rows = ap (λ x. x.left) c.into_iter-p-iterator.ensures.into_iter_gives
-    ∙ c.set_bits-p-items.ensures ∙ mod-eq_of_lt c.requires in
-    record {
-      long = c.told-table;
-      done =
-          λ k z. sym (ap (bit_xor (get_or t k 0)) (ap (λ b. b * mask) (sym (ap (λ x. bit x k) e) ∙ z) ∙ zero-mul mask) ∙ xor_zero_r (get_or t k 0));
-      ahead = λ k o. (sym (ap (λ x. bit x k) e) ∙ o, refl);
-    }
 
 pub loop-p-preserved : goal.loop-p-preserved
 loop-p-preserved c =

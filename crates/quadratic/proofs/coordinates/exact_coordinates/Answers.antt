@@ -15,12 +15,12 @@ returns c =
     let sum = c.closed_form-sum.result in
     let x = c.args.x.now in
     let words = four
-    (read c.cast_signed.result c.word.result sum.a0 c.cast_signed.type_inv c.cast_signed.ensures c.word.type_inv c.word.ensures
+    (read c.cast_signed.result c.word.result sum.a0.0 c.cast_signed.type_inv c.cast_signed.ensures c.word.type_inv c.word.ensures
     (ap (λ z. z.re.re.0) c.closed_form-sum.ensures))
-    (read c.cast_signed-2.result c.word-2.result sum.a1 c.cast_signed-2.type_inv c.cast_signed-2.ensures c.word-2.type_inv c.word-2.ensures
+    (read c.cast_signed-2.result c.word-2.result sum.a1.0 c.cast_signed-2.type_inv c.cast_signed-2.ensures c.word-2.type_inv c.word-2.ensures
     (ap (λ z. z.im.re.0) c.closed_form-sum.ensures))
-    (read c.cast_signed-3.result c.word-3.result sum.a2 c.cast_signed-3.type_inv c.cast_signed-3.ensures c.word-3.type_inv c.word-3.ensures
+    (read c.cast_signed-3.result c.word-3.result sum.a2.0 c.cast_signed-3.type_inv c.cast_signed-3.ensures c.word-3.type_inv c.word-3.ensures
     (ap (λ z. z.re.im.0) c.closed_form-sum.ensures))
-    (read c.cast_signed-4.result c.word-4.result sum.a3 c.cast_signed-4.type_inv c.cast_signed-4.ensures c.word-4.type_inv c.word-4.ensures
+    (read c.cast_signed-4.result c.word-4.result sum.a3.0 c.cast_signed-4.type_inv c.cast_signed-4.ensures c.word-4.type_inv c.word-4.ensures
     (ap (λ z. z.im.im.0) c.closed_form-sum.ensures)) in
     record { words = words; exact = words ∙ total-signed x; sizes = total-sized x }

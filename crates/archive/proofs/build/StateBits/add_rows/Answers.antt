@@ -24,11 +24,6 @@ unreachable-requires c =
     granted _ _ _ _ c.args.self.now.sound c.loop-a.a c.loop-a-test.true _ c.loop-a.invariant.raised _ c.append_row.new.self
     c.row.ensures c.in_default.ensures
 
-pub push-requires : goal.push-requires
-push-requires c =
-    let good = c.args.self.now.sound in
-    omega (arith, good.few, good.fewer, c.loop-a.invariant.listed.places)
-
 pub loop-a-preserved : goal.loop-a-preserved
 loop-a-preserved c =
     let good = c.args.self.now.sound in
@@ -37,6 +32,6 @@ loop-a-preserved c =
     record {
       raised = raised _ _ _ _ good c.loop-a.a c.loop-a-test.true _ w.raised _ _ _ c.row.ensures h;
       listed = listed_more _ _ _ _ good c.loop-a.a c.loop-a-test.true _ w.raised _ _ c.append_row.new.self c.row.ensures h
-          _ _ c.push.ensures w.listed;
+          _ _ c.push.ensures.items w.listed;
       same = h.1 ∙ w.same;
     }

@@ -5,6 +5,6 @@ use Rattle.archive.proofs.build.StateBits.add_rows.Given as goal
 abbrev pub invariant-loop-a : goal.invariant-loop-a
 invariant-loop-a l = record {
   raised : RaisedIn l.self l.a l.body;
-  listed : ListedIn l.self l.a l.pivots;
+  listed : ListedIn l.self l.a l.pivots.items;
   same : l.body.form ≡ l.initial.body.form;
 }

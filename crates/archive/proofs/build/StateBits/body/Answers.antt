@@ -2,7 +2,7 @@ use Rattle.std.proofs.Common.{ℕ, ◌+◌, sym, ◌∙◌, subst, mod-eq_of_lt,
 use Rattle.quadratic.specs.Building.{Begun}
 use Rattle.quadratic.specs.declared.phased.PhasedSpace.{PhasedSpace}
 use Rattle.archive.proofs.Laws.{bits_below}
-use Rattle.archive.proofs.Built.{spans-same, linear-blank, coupling-blank, weighed}
+use Rattle.archive.proofs.Built.{linear-blank, coupling-blank, weighed}
 use Rattle.archive.proofs.build.StateBits.body.Goals as goal
 
 begun-at : (s : PhasedSpace) (q : ℕ) → Begun s q → Begun s s.form.phase
@@ -17,14 +17,10 @@ add_couplings-requires-clause-blank c =
     coupling-blank _ _ _ _ c.args.self.now.sound _ (begun-at _ _ c.origin-body.ensures) _ c.add_space-pivots.ensures.same _
     c.add_linear.ensures
 
-pub returns : goal.returns
-returns c =
+pub returns-clause-weighs : goal.returns-clause-weighs
+returns-clause-weighs c =
     let s = c.args.self.now in
     let low = bits_below s.bytes.now (s.start + 25) 3 in
     let phase = c.origin-body.ensures.phase ∙ mod-eq_of_lt {n = c.phase.result} {m = 8} (omega (arith, c.phase.ensures)) ∙ c.phase.ensures in
-    record {
-      spans = spans-same _ _ _ _ c.add_space-pivots.new.body c.add_couplings.new.body
-          (c.add_couplings.ensures.same.space ∙ c.add_linear.ensures.space) c.add_space-pivots.ensures.spans;
-      weighs = weighed _ _ _ _ s.sound _ (begun-at _ _ c.origin-body.ensures) _ c.add_space-pivots.ensures.same _
-          c.add_linear.ensures _ c.add_couplings.ensures phase;
-    }
+    weighed _ _ _ _ s.sound _ (begun-at _ _ c.origin-body.ensures) _ c.add_space-pivots.ensures.same _
+    c.add_linear.ensures _ c.add_couplings.ensures phase

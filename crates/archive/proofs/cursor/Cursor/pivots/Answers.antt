@@ -1,9 +1,6 @@
 use Rattle.std.proofs.Common.{◌≡◌, ℕ, ◌+◌, ◌-◌, ◌*◌, ◌^◌, ◌<◌, ◌≤◌, Bool, true, false, cond, List, length, Some, None, sym, refl, ap, ◌∙◌, subst, add-mul, one-mul, arith}
-use native.Mathlib.Nat.{sub-zero, zero-div}
-use lib.Bits.{and_zero_r}
 use Rattle.std.proofs.lemmas.Nat.{mul-le, one_shl}
 use Rattle.std.proofs.lemmas.Result.{err_from_is_err_and}
-use Rattle.std.proofs.lemmas.Bool.{lt-ltb}
 use Rattle.archive.specs.declared.fault.StateFault.TheVariants.{Bits}
 use Rattle.archive.specs.Bits.{bits_from}
 use Rattle.archive.specs.Cursors.{Moved}
@@ -29,65 +26,43 @@ there b d q e h = omega (arith, ap length e)
 next : (a n : ℕ) → a * n + n ≡ (a + 1) * n
 next a n = let m = add-mul a 1 n in let o = one-mul n in omega arith
 
-pub loop-a-init : goal.loop-a-init
-loop-a-init c =
-    let s = c.args.self.now in
-    let b = s.bytes.now in
-    record {
-      moved = record { bytes = refl; start = refl; place = omega arith };
-      rows = record {
-        stands = omega (arith, c.requires.place);
-        verdict = ap (λ q. first_fault b q (rows b s.start c.args.n 0 c.args.k)) (sym c.requires.place)
-            ∙ ap (λ m. first_fault b s.at (rows b s.start c.args.n 0 m)) (sym (sub-zero c.args.k));
-        order = λ v. sym (lt-ltb (lead v) 64 (omega arith));
-        clear = λ t. rw (zero-div (2 ^ t)) refl;
-        off = λ v. rw (and_zero_r v) refl;
-      };
-    }
-
 near : (a n p : ℕ) → a ≤ 48 → n ≤ 48 → p ≤ 2 ^ 31 → p + 28 + a * n ≤ 2 ^ 32
 near a n p h g f = omega (arith, mul-le a n 48 48 h g)
-
-pub number-requires-clause-near : goal.number-requires-clause-near
-number-requires-clause-near c =
-    let s = c.args.self.now in
-    let w = c.loop-a.invariant.rows in
-    rw w.stands (near c.loop-a._a c.args.n s.start (omega arith) (omega arith) c.requires.near)
 
 pub returns-in_err-row-clause-verdict : goal.returns-in_err-row-clause-verdict
 returns-in_err-row-clause-verdict c =
     let s = c.args.self.now in
     let b = s.bytes.now in
-    let w = c.loop-a.invariant in
+    let w = c.loop.invariant in
     let h = c.in_err-row.ensures in
     let p = err_from_is_err_and c.from_residual.result c.from_residual.ensures.1 in
-    rw (p.1, p.2) (ap (λ q. first_fault b q (rows b s.start c.args.n 0 c.args.k)) c.requires.place
-    ∙ next_row _ _ _ _ _ _ _ _ _ c.loop-a-test.true w.rows
+    rw (p.1, p.2) (ap (λ q. first_fault b q (rows b s.start c.args.shape.n 0 c.args.shape.k)) c.requires.place
+    ∙ next_row _ _ _ _ _ _ _ _ _ c.loop-test.true w.rows
     ∙ cut b _ (row _ _ _ _) _ (omega (arith, h.short, ap length w.moved.bytes)) ∙ ap (λ f. Some (Bits f)) (sym h.fault))
 
 pub returns-in_default-clause-verdict : goal.returns-in_default-clause-verdict
 returns-in_default-clause-verdict c =
     let s = c.args.self.now in
     let b = s.bytes.now in
-    let w = c.loop-a.invariant in
+    let w = c.loop.invariant in
     let h = c.in_ok-row.ensures in
-    let value = h.value ∙ ap (λ d. bits_from d c.loop-a.self.at c.args.n) w.moved.bytes in
-    ap (λ q. first_fault b q (rows b s.start c.args.n 0 c.args.k)) c.requires.place
-    ∙ row-broken _ _ _ _ _ _ _ _ _ c.loop-a-test.true w.rows _ value (there b _ _ w.moved.bytes h.there)
-    (refused (Good c.loop-a.above c.loop-a.seen c.in_ok-row.row) _ c.in_default.ensures)
+    let value = h.value ∙ ap (λ d. bits_from d c.loop.self.at c.args.shape.n) w.moved.bytes in
+    ap (λ q. first_fault b q (rows b s.start c.args.shape.n 0 c.args.shape.k)) c.requires.place
+    ∙ row-broken _ _ _ _ _ _ _ _ _ c.loop-test.true w.rows _ value (there b _ _ w.moved.bytes h.there)
+    (refused (Good c.loop.above c.loop.seen c.in_ok-row.row) _ c.in_default.ensures)
 
-pub loop-a-preserved : goal.loop-a-preserved
-loop-a-preserved c =
+pub loop-preserved : goal.loop-preserved
+loop-preserved c =
     let b = c.args.self.now.bytes.now in
-    let w = c.loop-a.invariant in
+    let w = c.loop.invariant in
     let h = c.in_ok-row.ensures in
     let v = c.in_ok-row.row in
-    let value = h.value ∙ ap (λ d. bits_from d c.loop-a.self.at c.args.n) w.moved.bytes in
-    let g = granted (Good c.loop-a.above c.loop-a.seen v) (lead v) c.in-Some.pivot c.in-Some.ensures in
+    let value = h.value ∙ ap (λ d. bits_from d c.loop.self.at c.args.shape.n) w.moved.bytes in
+    let g = granted (Good c.loop.above c.loop.seen v) (lead v) c.in-Some.pivot c.in-Some.ensures in
     let low : lead v < 64 = omega arith in
     record {
-      moved = subst (Moved c.args.self.now c.number.new.self) (next c.loop-a._a c.args.n) (then w.moved h.moved);
-      rows = rw (h.moved.place, g.1, one_shl (lead v) 64 low) (row_more _ _ _ _ _ _ _ _ _ c.loop-a-test.true w.rows v value
+      moved = subst (Moved c.args.self.now c.number.new.self) (next c.loop.counter c.args.shape.n) (then w.moved h.moved);
+      rows = rw (h.moved.place, g.1, one_shl (lead v) 64 low) (row_more _ _ _ _ _ _ _ _ _ c.loop-test.true w.rows v value
           (there b _ _ w.moved.bytes h.there) g.0);
     }
 
@@ -95,12 +70,12 @@ pub returns : goal.returns
 returns c =
     let s = c.args.self.now in
     let b = s.bytes.now in
-    let w = c.loop-a.invariant in
-    let full : c.loop-a._a ≡ c.args.k = omega arith in
-    let none : c.args.k - c.loop-a._a ≡ 0 = omega arith in
+    let w = c.loop.invariant in
+    let full : c.loop.counter ≡ c.args.shape.k = omega arith in
+    let none : c.args.shape.k - c.loop.counter ≡ 0 = omega arith in
     record {
-      verdict = ap (λ q. first_fault b q (rows b s.start c.args.n 0 c.args.k)) c.requires.place ∙ w.rows.verdict
-          ∙ ap (λ m. first_fault b c.loop-a.self.at (rows b s.start c.args.n c.loop-a._a m)) none ∙ fault-none b _;
-      moved = subst (λ a. Moved s c.loop-a.self (a * c.args.n)) full w.moved;
-      mask = λ v. ap (off_leads b s.start c.args.n v) (sym full) ∙ w.rows.off v;
+      verdict = ap (λ q. first_fault b q (rows b s.start c.args.shape.n 0 c.args.shape.k)) c.requires.place ∙ w.rows.verdict
+          ∙ ap (λ m. first_fault b c.loop.self.at (rows b s.start c.args.shape.n c.loop.counter m)) none ∙ fault-none b _;
+      moved = subst (λ a. Moved s c.loop.self (a * c.args.shape.n)) full w.moved;
+      mask = λ v. ap (off_leads b s.start c.args.shape.n v) (sym full) ∙ w.rows.off v;
     }

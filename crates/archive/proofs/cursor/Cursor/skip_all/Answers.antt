@@ -18,26 +18,26 @@ returns-in_err-skip-clause-verdict c =
     let x = free c.args.field c.args.width in
     let h = c.in_err-skip.ensures in
     let p = err_from_is_err_and c.from_residual.result c.from_residual.ensures.1 in
-    rw (p.1, p.2) (c.loop-i.invariant.verdict ∙ ap (fault_at c.loop-i.self) (copies-more c.loop-i._i c.args.count x c.loop-i-test.true)
+    rw (p.1, p.2) (c.loop.invariant.verdict ∙ ap (fault_at c.loop.self) (copies-more c.loop.counter c.args.count x c.loop-test.true)
     ∙ cut _ _ x _ h.short ∙ ap (λ f. Some (Bits f)) (sym h.fault))
 
-pub loop-i-preserved : goal.loop-i-preserved
-loop-i-preserved c =
+pub loop-preserved : goal.loop-preserved
+loop-preserved c =
     let x = free c.args.field c.args.width in
-    let w = c.loop-i.invariant in
+    let w = c.loop.invariant in
     let h = c.in_ok-skip.ensures in
     record {
-      moved = subst (Moved c.args.self.now c.skip.new.self) (next c.loop-i._i c.args.width) (then w.moved h.moved);
-      verdict = w.verdict ∙ ap (fault_at c.loop-i.self) (copies-more c.loop-i._i c.args.count x c.loop-i-test.true)
+      moved = subst (Moved c.args.self.now c.skip.new.self) (next c.loop.counter c.args.width) (then w.moved h.moved);
+      verdict = w.verdict ∙ ap (fault_at c.loop.self) (copies-more c.loop.counter c.args.count x c.loop-test.true)
           ∙ fine _ _ x _ _ refl h.there refl ∙ moved-fault _ _ h.moved refl;
     }
 
 pub returns : goal.returns
 returns c =
-    let full : c.loop-i._i ≡ c.args.count = omega arith in
-    let none : c.args.count - c.loop-i._i ≡ 0 = omega arith in
-    let w = c.loop-i.invariant in
+    let full : c.loop.counter ≡ c.args.count = omega arith in
+    let none : c.args.count - c.loop.counter ≡ 0 = omega arith in
+    let w = c.loop.invariant in
     record {
-      verdict = w.verdict ∙ ap (λ m. fault_at c.loop-i.self (copies m (free c.args.field c.args.width))) none ∙ fault-none _ _;
-      moved = subst (λ i. Moved c.args.self.now c.loop-i.self (i * c.args.width)) full w.moved;
+      verdict = w.verdict ∙ ap (λ m. fault_at c.loop.self (copies m (free c.args.field c.args.width))) none ∙ fault-none _ _;
+      moved = subst (λ i. Moved c.args.self.now c.loop.self (i * c.args.width)) full w.moved;
     }

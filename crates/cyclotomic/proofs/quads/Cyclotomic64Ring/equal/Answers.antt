@@ -11,8 +11,8 @@ pub returns-clause-complete : goal.returns-clause-complete
 returns-clause-complete c = λ e.
     let x = c.args.self in
     let y = c.args.other in
-    let e0 : x.a0 ≡ y.a0 = apart _ _ (omega arith) (omega arith) (ap (λ z. z.re.re) e) in
-    let e1 : x.a1 ≡ y.a1 = apart _ _ (omega arith) (omega arith) (ap (λ z. z.im.re) e) in
-    let e2 : x.a2 ≡ y.a2 = apart _ _ (omega arith) (omega arith) (ap (λ z. z.re.im) e) in
-    let e3 : x.a3 ≡ y.a3 = apart _ _ (omega arith) (omega arith) (ap (λ z. z.im.im) e) in
+    let e0 : x.a0.0 ≡ y.a0.0 = apart _ _ (omega arith) (omega arith) (ap (λ z. z.re.re) e) in
+    let e1 : x.a1.0 ≡ y.a1.0 = apart _ _ (omega arith) (omega arith) (ap (λ z. z.im.re) e) in
+    let e2 : x.a2.0 ≡ y.a2.0 = apart _ _ (omega arith) (omega arith) (ap (λ z. z.re.im) e) in
+    let e3 : x.a3.0 ≡ y.a3.0 = apart _ _ (omega arith) (omega arith) (ap (λ z. z.im.im) e) in
     search rules

@@ -1,11 +1,11 @@
-use Rattle.std.proofs.Common.{lit<}
+use Rattle.std.proofs.Common.{arith, lit<}
 use Rattle.cyclotomic.proofs.Conj.{four}
-use Rattle.cyclotomic.proofs.Residues.{low-wrapped}
+use Rattle.cyclotomic.proofs.Residues.{low-from-zero}
 use Rattle.cyclotomic.proofs.quads.Cyclotomic64Ring.negative.Goals as goal
 
 pub returns : goal.returns
 returns c =
-    four (low-wrapped (lit< tt) 1 _ _ c.wrapping_neg.ensures)
-    (low-wrapped (lit< tt) 1 _ _ c.wrapping_neg-2.ensures)
-    (low-wrapped (lit< tt) 1 _ _ c.wrapping_neg-3.ensures)
-    (low-wrapped (lit< tt) 1 _ _ c.wrapping_neg-4.ensures)
+    let x = c.args.self in
+    rw (c.neg.ensures, c.neg-2.ensures, c.neg-3.ensures, c.neg-4.ensures)
+    (four (low-from-zero (lit< tt) 1 x.a0.0 (omega arith)) (low-from-zero (lit< tt) 1 x.a1.0 (omega arith))
+    (low-from-zero (lit< tt) 1 x.a2.0 (omega arith)) (low-from-zero (lit< tt) 1 x.a3.0 (omega arith)))

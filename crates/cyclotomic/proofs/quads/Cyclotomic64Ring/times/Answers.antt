@@ -7,8 +7,6 @@ pub returns : goal.returns
 returns c =
     let x = c.args.self in
     let y = c.args.other in
-    let p = c.wrapping.ensures in
-    let q = c.wrapping-2.ensures in
     rw (
       c.sub-3.ensures,
       c.mul-4.ensures,
@@ -38,13 +36,5 @@ returns c =
       c.add-4.ensures,
       c.mul-14.ensures,
       c.mul-13.ensures,
-      p.first,
-      p.second,
-      p.third,
-      p.fourth,
-      q.first,
-      q.second,
-      q.third,
-      q.fourth,
     )
-    (four-times (2 ^ 64) (lit< tt) 1 x.a0 x.a1 x.a2 x.a3 y.a0 y.a1 y.a2 y.a3)
+    (four-times (2 ^ 64) (lit< tt) 1 x.a0.0 x.a1.0 x.a2.0 x.a3.0 y.a0.0 y.a1.0 y.a2.0 y.a3.0)

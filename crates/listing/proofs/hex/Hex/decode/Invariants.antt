@@ -2,11 +2,13 @@ use Rattle.std.proofs.Common.{◌≡◌, ℕ, ◌*◌, ◌<◌, ◌≤◌, lengt
 use Rattle.listing.specs.Digits.{byte_at}
 use Rattle.listing.proofs.hex.Hex.decode.Given as goal
 
-abbrev pub invariant-loop-pair : goal.invariant-loop-pair
-invariant-loop-pair l =
+abbrev pub invariant-loop-digits : goal.invariant-loop-digits
+invariant-loop-digits l =
     record {
-      size : l.pair-iterator.size ≡ 2;
       within : 2 * vec_len l.out ≤ length l.self.digits.now;
-      rest : l.pair-iterator.rest.now ≡ drop (2 * vec_len l.out) l.self.digits.now;
+      rest : l.digits ≡ drop (2 * vec_len l.out) l.self.digits.now;
       each : (k : ℕ) → k < vec_len l.out → get_or (vec_items l.out) k 0 ≡ byte_at l.self.digits.now k;
     }
+
+abbrev pub decreases-loop-digits : goal.decreases-loop-digits
+decreases-loop-digits l = length l.digits

@@ -1,11 +1,15 @@
-use Rattle.std.proofs.Common.{◌≡◌, ◌<◌, false, Some, length, take, get_or, refl, sym, ap, ◌∙◌, arith}
+use Rattle.std.proofs.Common.{◌≡◌, ℕ, ◌<◌, List, [], ◌∷◌, ◌++◌, false, Some, length, take, get_or, refl, sym, ap, ◌∙◌, arith, append-nil}
 use Rattle.std.specs.Fmt.{styled_digits_output}
 use Rattle.std.proofs.Output.{has_written_append, has_written_of_eq}
 use Rattle.std.proofs.lemmas.Fmt.{hex_byte}
 use Rattle.std.proofs.lemmas.List.{take_more}
 use Rattle.listing.specs.Digits.{byte_text, pairs_text}
-use Rattle.listing.proofs.Glyphs.{pairs-more}
 use Rattle.listing.proofs.hex.HexBytesDisplay.fmt.Goals as goal
+
+-- one byte more is one pair more
+pairs-more : (bs : List ℕ) (b : ℕ) → pairs_text (bs ++ b ∷ []) ≡ pairs_text bs ++ byte_text b
+pairs-more [] b = append-nil (byte_text b)
+pairs-more (x ∷ bs) b = ap (λ (t : List ℕ). byte_text x ++ t) (pairs-more bs b)
 
 pub loop-byte-preserved : goal.loop-byte-preserved
 loop-byte-preserved g c = λ plain.

@@ -1,14 +1,16 @@
-use Rattle.std.proofs.Common.{◌≡◌, min, length, ap, ◌∙◌, arith, rules}
+use Rattle.std.proofs.Common.{◌≡◌, ◌*◌, ◌%◌, ◌^◌, Some, min, ap, ◌∙◌, arith, rules, lit<, one-mul}
+use Rattle.std.specs.Fmt.{styled_digits_output}
+use Rattle.std.proofs.Math.Pow.{shl_exact}
 use Rattle.listing.specs.Fields.{bits_text}
-use Rattle.listing.proofs.Glyphs.{bits-shown, same-put}
+use Rattle.listing.proofs.Binary.{binary}
 use Rattle.listing.proofs.space.BitsTextDisplay.fmt.Goals as goal
 
 pub returns-clause-writes : goal.returns-clause-writes
-returns-clause-writes g c = λ plain ok.
-    let string = c.args.self.now.string in
+returns-clause-writes g c =
+    let y = c.args.self.now.string in
     let n = c.min-length.result in
     let least : n ≡ min c.args.self.now.length 48 = search rules in
-    let long : length c.bits_of-bits.result ≡ 48 = search rules in
-    same-put (bits-shown c.bits_of-bits.result string n long (omega (arith, least)) c.bits_of-bits.ensures
-    ∙ ap (λ m. bits_text m string) least)
-    (c.write_ascii.ensures plain ok)
+    let place : 1 * 2 ^ n % 2 ^ 64 ≡ 2 ^ n = shl_exact 1 n 64 (lit< tt) (omega (arith, least)) ∙ one-mul (2 ^ n) in
+    let shown : styled_digits_output c.in_radix.result c.laid_out.result ≡ Some (bits_text n y) =
+    rw (c.laid_out.ensures, c.in_radix.ensures) (ap Some (binary n y _ (omega (arith, least)) (omega arith) place)) in
+    rw (← least) (rw shown at c.write.ensures.writes)

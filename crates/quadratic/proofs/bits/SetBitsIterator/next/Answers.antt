@@ -1,13 +1,6 @@
 use Rattle.std.proofs.Common.{rules}
-use Rattle.quadratic.proofs.Lowest.{set_below, clear-lowest, lowest-below, lowest-fewer}
+use Rattle.quadratic.proofs.Lowest.{set_below, clear-lowest, lowest-fewer}
 use Rattle.quadratic.proofs.bits.SetBitsIterator.next.Goals as goal
-
-pub invariant_of-self : goal.invariant_of-self
-invariant_of-self c =
-    let x = c.args.self.now in
-    let p = c.lowest-p.result in
-    let low = c.lowest-p.ensures in
-    record { inside = lowest-below x.left p _ x.inside low.on (clear-lowest x.left p low.on low.least) }
 
 pub returns-clause-steps : goal.returns-clause-steps
 returns-clause-steps c =

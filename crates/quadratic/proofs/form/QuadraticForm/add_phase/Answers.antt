@@ -1,4 +1,4 @@
-use Rattle.std.proofs.Common.{◌≡◌, ℕ, zero, suc, ◌+◌, ◌*◌, ◌%◌, mod-lt, arith, lit<}
+use Rattle.std.proofs.Common.{◌≡◌, ℕ, zero, suc, ◌+◌, ◌*◌, ◌%◌, arith}
 use native.Mathlib.Nat.{mod-mod}
 use Rattle.quadratic.specs.Bits.{bit, inner}
 use Rattle.quadratic.specs.Quadratic.{quad, coef, link}
@@ -15,18 +15,6 @@ shifted Q Q' k D J c h (suc n) = carried (quad Q' D J c n) (quad Q D J c n) k (c
 
 once : (a b k : ℕ) → a ≡ (b + k) % 8 → a ≡ (b % 8 + k) % 8
 once a b k h = omega arith
-
-pub invariant_of-self : goal.invariant_of-self
-invariant_of-self c =
-    let f = c.args.self.now in
-    record {
-      phased = mod-lt (f.phase + c.args.k) (lit< tt);
-      odds = f.odds;
-      negs = f.negs;
-      inside = f.inside;
-      square = f.square;
-      own = f.own;
-    }
 
 pub returns : goal.returns
 unfolding value_at

@@ -4,12 +4,6 @@ use Rattle.quadratic.specs.Value.{value_at}
 use Rattle.quadratic.proofs.Rows.{value-product, inside_both, square-both, own-both}
 use Rattle.quadratic.proofs.form.QuadraticForm.add_product.Goals as goal
 
-pub xor_rows-requires : goal.xor_rows-requires
-xor_rows-requires c = c.requires.0
-
-pub xor_rows-requires-2 : goal.xor_rows-requires-2
-xor_rows-requires-2 c = c.requires.1
-
 pub invariant_of-self : goal.invariant_of-self
 invariant_of-self c =
     let f = c.args.self.now in
@@ -21,8 +15,8 @@ invariant_of-self c =
     let y = c.xor_rows-2.ensures in record {
       phased = f.phased;
       odds = f.odds;
-      negs = xor_lt 48 f.neg (bit_and u v) f.negs (lt_of_le_of_lt (and_le_l u v) c.requires.0);
-      inside = inside_both 48 f.phase f.odd f.neg f.coupling t s u v x y c.requires.0 c.requires.1 f.inside;
+      negs = xor_lt 48 f.neg (bit_and u v) f.negs (lt_of_le_of_lt (and_le_l u v) c.requires.first);
+      inside = inside_both 48 f.phase f.odd f.neg f.coupling t s u v x y c.requires.first c.requires.second f.inside;
       square = square-both 48 f.phase f.odd f.neg f.coupling t s u v x y f.square;
       own = own-both 48 f.phase f.odd f.neg f.coupling t s u v x y f.own;
     }
@@ -33,4 +27,4 @@ returns c =
     let f = c.args.self.now in
     λ p. value-product 48 f.phase f.odd f.neg f.coupling c.xor_rows.new.table c.xor_rows-2.new.table
     c.args.u c.args.v
-    c.xor_rows.ensures c.xor_rows-2.ensures p c.requires.0 c.requires.1
+    c.xor_rows.ensures c.xor_rows-2.ensures p c.requires.first c.requires.second

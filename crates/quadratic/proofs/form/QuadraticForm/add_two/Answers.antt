@@ -4,9 +4,6 @@ use Rattle.quadratic.specs.Value.{value_at}
 use Rattle.quadratic.proofs.Rows.{value-two, inside-xor, square-two, own-two}
 use Rattle.quadratic.proofs.form.QuadraticForm.add_two.Goals as goal
 
-pub xor_rows-requires : goal.xor_rows-requires
-xor_rows-requires c = c.requires
-
 pub invariant_of-self : goal.invariant_of-self
 invariant_of-self c =
     let f = c.args.self.now in

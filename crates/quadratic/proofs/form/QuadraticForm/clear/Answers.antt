@@ -5,9 +5,6 @@ use Rattle.quadratic.proofs.Clear.{mask_below, square-clear, inside-clear, own-c
 use Rattle.quadratic.proofs.Clear.{value-free}
 use Rattle.quadratic.proofs.form.QuadraticForm.clear.Goals as goal
 
-pub xor_rows-requires : goal.xor_rows-requires
-xor_rows-requires c = c.args.self.now.inside c.args.a
-
 pub invariant_of-self : goal.invariant_of-self
 invariant_of-self c =
     let f = c.args.self.now in

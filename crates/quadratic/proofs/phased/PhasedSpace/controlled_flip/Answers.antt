@@ -10,9 +10,9 @@ returns-in-Some c = (
   c.if-l-ge48.false,
   c.if-j-l.false,
   turned-shear c.args.self.now c.add_parity.new.self c.add_product.new.self c.args.j c.args.l
-      c.turned-control.result c.in-Some.quarters c.in-Some.lambda c.turned.result
+      c.turned-control.result c.in-Some.turn.quarters c.in-Some.turn.mask c.turned.result
       (λ y. one-dot c.turned-control.result c.args.j y c.turned-control.ensures) c.turned.ensures
-      c.in-Some.ensures.1 c.add_parity.ensures c.add_product.ensures,
+      c.in-Some.ensures c.add_parity.ensures c.add_product.ensures,
 )
 
 pub slide-requires : goal.slide-requires

@@ -5,10 +5,10 @@ use Rattle.quadratic.proofs.Sight.{seen-plus, bit-seen, one-dot, one_below}
 use Rattle.quadratic.proofs.phased.PhasedSpace.couple.Goals as goal
 
 pub add_product-requires : goal.add_product-requires
-add_product-requires c = (
-  one_below c.turned.result c.args.p c.turned.ensures (c.if-not-is_pivot.ensures.yes tt).0,
-  one_below c.turned-2.result c.args.q c.turned-2.ensures (c.if-not-is_pivot-2.ensures.yes tt).0,
-)
+add_product-requires c = record {
+  first = one_below c.turned.result c.args.p c.turned.ensures (c.if-not-is_pivot.ensures.yes tt).0;
+  second = one_below c.turned-2.result c.args.q c.turned-2.ensures (c.if-not-is_pivot-2.ensures.yes tt).0;
+}
 
 pub invariant_of-self : goal.invariant_of-self
 invariant_of-self c =

@@ -1,9 +1,9 @@
-use Rattle.std.proofs.Common.{sym, refl, ap, ◌∙◌, arith}
+use Rattle.std.proofs.Common.{eqb, sym, refl, ap, ◌∙◌, arith}
 use lib.Bits.{bit_and, and_comm}
-use Rattle.quadratic.specs.Bits.{bit}
+use Rattle.quadratic.specs.Bits.{bit, flag}
 use Rattle.quadratic.specs.Echelon.{row}
 use Rattle.quadratic.proofs.Extend.{extended}
-use Rattle.quadratic.proofs.Laws.{facts, red-clean, off-bit}
+use Rattle.quadratic.proofs.Laws.{facts, red-clean, off-bit, tested}
 use Rattle.quadratic.proofs.Left.{left_lt, left-none}
 use Rattle.quadratic.proofs.Lowest.{set_below}
 use Rattle.quadratic.proofs.phased.PhasedSpace.extend.Goals as goal
@@ -42,8 +42,8 @@ returns c =
     let off = ap (λ x. bit_and x P) c.rest-rest.ensures
     ∙ red-clean P (row s.space.rows) s.space.shift (facts s.space) c.args.d in
     extended s c.insert.new.self c.add_across.new.self c.args.d c.args.quarters c.args.z
-    c.gain-turns.result.0 c.gain-turns.result.1 c.check-w.result c.bit-base.result g p
-    c.check-w.ensures (c.bit-base.ensures.value ∙ ap (λ x. bit x p) c.shift.ensures) c.rest-rest.ensures
+    c.gain-turn.result.quarters c.gain-turn.result.mask c.check-w.result (flag (eqb c.bit-base.result 1)) g p
+    c.check-w.ensures (tested c.bit-base.result (bit s.space.shift p) (c.bit-base.ensures.value ∙ ap (λ x. bit x p) c.shift.ensures) c.bit-base.ensures.small) c.rest-rest.ensures
     c.highest-p.ensures.on (off-bit P g p (and_comm P g ∙ off) c.highest-p.ensures.on)
-    c.insert.ensures.pivots c.insert.ensures.strings c.insert.ensures.form c.gain-turns.ensures.law
+    c.insert.ensures.pivots c.insert.ensures.strings c.insert.ensures.form c.gain-turn.ensures
     c.add_across.ensures.phases c.add_across.ensures.space

@@ -7,8 +7,5 @@ pub returns-then-rest-ne0 : goal.returns-then-rest-ne0
 returns-then-rest-ne0 c = λ y m n. c.if-rest-ne0.true (c.rest.ensures ∙ left-zero c.args.self.now.space c.args.f y m n)
 
 pub returns : goal.returns
-returns c = (
-  c.gain.ensures.small,
-  along c.args.self.now c.args.f c.args.z c.gain.result.0 c.gain.result.1
-      (sym c.rest.ensures ∙ c.if-rest-ne0.false) c.gain.ensures.law,
-)
+returns c =
+    along c.args.self.now c.args.f c.args.z c.gain.result.quarters c.gain.result.mask (sym c.rest.ensures ∙ c.if-rest-ne0.false) c.gain.ensures

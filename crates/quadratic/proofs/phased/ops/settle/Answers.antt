@@ -1,30 +1,12 @@
-use Rattle.std.proofs.Common.{◌*◌, ◌^◌, sym, refl, ap, ◌∙◌, subst, zero-mul, mod-eq_of_lt}
+use Rattle.std.proofs.Common.{eqb, ◌*◌, ◌^◌, sym, ap, ◌∙◌, subst, zero-mul}
 use lib.Bits.{bit_and, bit_xor, and_comm, xor_zero_r}
-use Rattle.quadratic.specs.Bits.{bit, dot, Lowest}
+use Rattle.quadratic.specs.Bits.{bit, dot, flag, Lowest}
 use Rattle.quadratic.specs.Echelon.{row}
 use Rattle.quadratic.specs.Value.{value_at}
-use Rattle.quadratic.proofs.Laws.{off-bit}
+use Rattle.quadratic.proofs.Laws.{off-bit, tested, flag-lt}
 use Rattle.quadratic.proofs.Settle.{column-inside, column-off, own-bit, unseen, still-apart}
 use Rattle.quadratic.proofs.Sight.{Seen}
 use Rattle.quadratic.proofs.phased.ops.settle.Goals as goal
-
-pub returns-then-gone-eq0 : goal.returns-then-gone-eq0
-returns-then-gone-eq0 c =
-    let P = c.args.space.now.pivots in
-    record {
-      kept = λ y m. refl;
-      seen = subst (Seen (value_at c.args.form.now)) (ap (bit_xor P) c.if-gone-eq0.true ∙ xor_zero_r P);
-    }
-
-pub loop-i-init : goal.loop-i-init
-loop-i-init c =
-    let P = c.args.space.now.pivots in
-    let e = ap (λ x. x.left) c.into_iter-i-iterator.ensures.into_iter_gives ∙ c.set_bits-i-items.ensures ∙ mod-eq_of_lt c.requires.inside in
-    record {
-      apart = ap (λ x. bit_and x P) e ∙ c.requires.apart;
-      kept = λ y m. refl;
-      seen = subst (λ x. Seen (value_at c.args.form.now) (bit_xor P x)) (sym e);
-    }
 
 pub fix-requires : goal.fix-requires
 fix-requires c =
@@ -36,7 +18,6 @@ fix-requires c =
       place = low.place;
       low = c.columns-columns.ensures.below i;
       free = column-off s i (row c.columns-columns.result i) (c.columns-columns.ensures.bits i) off;
-      small = c.bit.ensures.small;
     }
 
 pub loop-i-preserved : goal.loop-i-preserved
@@ -50,7 +31,8 @@ loop-i-preserved c =
     let inv = c.loop-i.invariant in
     let v = value_at c.loop-i.form in
     let v' = value_at c.fix.new.self in
-    let β = c.bit.ensures.value in
+    let b = flag (eqb c.bit.result 1) in
+    let β = tested c.bit.result (bit c.shift.result i) c.bit.ensures.value c.bit.ensures.small in
     record {
       apart = ap (λ x. bit_and x s.pivots) low.rest ∙ still-apart s.pivots left i inv.apart low.on;
       kept = λ y m.
@@ -59,14 +41,6 @@ loop-i-preserved c =
           ∙ ap (λ x. v (bit_xor y (x * 2 ^ i))) (own-bit s i col bits y m) ∙ ap v (ap (bit_xor y) (zero-mul (2 ^ i)) ∙ xor_zero_r y)
           ∙ inv.kept y m;
       seen = λ h. subst (λ x. Seen v' (bit_xor s.pivots x)) (sym low.rest)
-          (unseen v v' s.pivots left i col c.bit.result c.fix.ensures c.bit.ensures.small inv.apart low.on
+          (unseen v v' s.pivots left i col b c.fix.ensures (flag-lt (eqb c.bit.result 1)) inv.apart low.on
           (column-inside s i col bits) (inv.seen h));
-    }
-
-pub returns : goal.returns
-returns c =
-    let P = c.args.space.now.pivots in
-    record {
-      kept = c.loop-i.invariant.kept;
-      seen = λ h. subst (Seen (value_at c.loop-i.form)) (ap (bit_xor P) c.in-None.ensures.steps ∙ xor_zero_r P) (c.loop-i.invariant.seen h);
     }

@@ -7,12 +7,6 @@ use Rattle.quadratic.proofs.sum.Remaining.finish.Goals as goal
 pub returns-in_err-step : goal.returns-in_err-step
 returns-in_err-step c = rw c.from_residual.ensures (sym c.loop-self.invariant.same ∙ c.in_err-step.ensures)
 
-pub loop-self-preserved : goal.loop-self-preserved
-loop-self-preserved c =
-    let s = c.in_ok-step.ensures in
-    let inv = c.loop-self.invariant in
-    record { same = s.same ∙ inv.same; least = omega (arith, s.least, inv.least); most = omega (arith, s.most, inv.most) }
-
 pub returns : goal.returns
 returns c =
     let s = c.loop-self.self in

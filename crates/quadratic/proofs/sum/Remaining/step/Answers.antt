@@ -1,11 +1,10 @@
-use Rattle.std.proofs.Common.{◌≡◌, ℕ, ◌+◌, ◌*◌, ◌^◌, ◌≤◌, sym, refl, ap, ◌∙◌, mul-one, arith}
-use lib.Bits.{bit_and, xor_lt}
+use Rattle.std.proofs.Common.{◌≡◌, ℕ, ◌+◌, ◌*◌, sym, refl, ap, ◌∙◌, mul-one, arith}
+use lib.Bits.{bit_and}
 use lib.Count.{ones}
-use lib.Pow.{pow-lt}
 use Rattle.quadratic.specs.Bits.{bit}
 use Rattle.quadratic.proofs.Bitlaws.{bit-and, bit-zero, bits-both}
 use Rattle.quadratic.proofs.Eliminate.{stepped, lone-left, dead-left}
-use Rattle.quadratic.proofs.Lowest.{set_below, ones-drop}
+use Rattle.quadratic.proofs.Lowest.{set_below, ones-drop, summed-out}
 use Rattle.quadratic.proofs.sum.Remaining.step.Goals as goal
 
 -- a live variable is even where no live one is odd
@@ -32,8 +31,10 @@ sum_pair-requires c =
     let both = bits-both c.partners.result s.live b c.lowest-then-partners-ne0.ensures.on in
     let none = ap (λ x. bit_and x s.live) (sym c.odd.ensures) ∙ c.if-odd-ne0.false in
     record {
-      lives = (c.lowest-a.ensures.on, both.1);
-      evens = (even s.form.odd s.live a none c.lowest-a.ensures.on, even s.form.odd s.live b none both.1);
+      first = c.lowest-a.ensures.on;
+      second = both.1;
+      first_even = even s.form.odd s.live a none c.lowest-a.ensures.on;
+      second_even = even s.form.odd s.live b none both.1;
       coupled = ap (λ x. bit x b) (sym c.partners.ensures) ∙ both.0;
     }
 
@@ -58,14 +59,8 @@ pub invariant_of-self : goal.invariant_of-self
 invariant_of-self c =
     let s = c.args.self.now in
     let a = c.lowest-a.result in
-    let l = set_below 48 s.live a s.inside c.lowest-a.ensures.on in
-    let e = c.turned-self.ensures in
-    let n = ap (λ x. ones x + 1) e ∙ ones-drop s.live a s.inside c.lowest-a.ensures.on in
-    let few : s.power + 2 + 2 * ones c.turned-self.result ≤ 96 = omega (arith, n, s.few) in
-    record {
-      inside = rw e (xor_lt 48 s.live (2 ^ a) s.inside (pow-lt l));
-      few = few;
-    }
+    let left = summed-out s.live a c.turned-self.result s.power 2 s.inside c.lowest-a.ensures.on c.turned-self.ensures (omega arith) s.few in
+    record { inside = left.0; few = left.1 }
 
 pub returns : goal.returns
 returns c =

@@ -2,10 +2,12 @@ use Rattle.std.proofs.Common.{◌≡◌, ℕ, ◌+◌, ◌*◌, ◌%◌, ◌^◌
 use lib.Bits.{bit_and, bit_xor, and_le_l, xor_lt}
 use lib.Count.{ones}
 use lib.Pow.{pow-lt}
-use Rattle.quadratic.specs.Bits.{bit}
+use Rattle.quadratic.specs.Bits.{bit, dot}
 use Rattle.quadratic.specs.Quadratic.{coef}
+use Rattle.quadratic.specs.Value.{value_at}
 use Rattle.quadratic.specs.declared.form.QuadraticForm.{QuadraticForm}
 use Rattle.quadratic.proofs.Bitlaws.{bit-lt}
+use Rattle.quadratic.proofs.Clear.{twice-half}
 use Rattle.quadratic.proofs.Eliminate.{pair_left, still-on}
 use Rattle.quadratic.proofs.Lowest.{set_below, ones-drop}
 use Rattle.quadratic.proofs.sum.Remaining.sum_pair.Goals as goal
@@ -20,43 +22,17 @@ quarters f a d z e = let l = bit-lt f.neg a in (omega (arith, z, e, l), omega (a
 
 pub turned-requires : goal.turned-requires
 turned-requires c = let s = c.args.self.now in let l =
-    set_below 48 s.live c.args.a s.inside c.requires.lives.0 in omega arith
+    set_below 48 s.live c.args.a s.inside c.requires.first in omega arith
 
 pub turned-rest-requires : goal.turned-rest-requires
 turned-rest-requires c = let s = c.args.self.now in let l =
-    set_below 48 s.live c.args.b s.inside c.requires.lives.1 in omega arith
+    set_below 48 s.live c.args.b s.inside c.requires.second in omega arith
 
 pub partners-requires : goal.partners-requires
-partners-requires c = let s = c.args.self.now in set_below 48 s.live c.args.a s.inside c.requires.lives.0
+partners-requires c = let s = c.args.self.now in set_below 48 s.live c.args.a s.inside c.requires.first
 
 pub partners-requires-2 : goal.partners-requires-2
-partners-requires-2 c = let s = c.args.self.now in set_below 48 s.live c.args.b s.inside c.requires.lives.1
-
-pub add_parity-requires : goal.add_parity-requires
-add_parity-requires c =
-    let f = c.args.self.now.form in
-    let q = quarters f c.args.a c.linear-alpha.result c.requires.evens.0 c.linear-alpha.ensures.value in
-    record {
-      mask_bound = masked f c.args.b c.partners-2.result c.turned-rest.result c.partners-2.ensures;
-      times_bound = q;
-    }
-
-pub add_parity-requires-2 : goal.add_parity-requires-2
-add_parity-requires-2 c =
-    let f = c.args.self.now.form in
-    let q = quarters f c.args.b c.linear-beta.result c.requires.evens.1 c.linear-beta.ensures.value in
-    record {
-      mask_bound = masked f c.args.a c.partners.result c.turned-rest.result c.partners.ensures;
-      times_bound = q;
-    }
-
-pub add_product-requires : goal.add_product-requires
-add_product-requires c =
-    let f = c.args.self.now.form in
-    let r = c.turned-rest.result in (
-      masked f c.args.a c.partners.result r c.partners.ensures,
-      masked f c.args.b c.partners-2.result r c.partners-2.ensures,
-    )
+partners-requires-2 c = let s = c.args.self.now in set_below 48 s.live c.args.b s.inside c.requires.second
 
 -- two variables less
 module _ (f : QuadraticForm) (live a b r : ℕ) (inside : live < 2 ^ 48) (on : bit live a ≡ 1) (on' : bit live b ≡ 1)
@@ -80,11 +56,11 @@ invariant_of-self c =
     let r = c.turned-rest.result in
     let e = c.turned-rest.ensures ∙ ap (λ x. bit_xor x (2 ^ c.args.b)) c.turned.ensures in
     let p = c.requires in
-    let n = two-less s.form s.live c.args.a c.args.b r s.inside p.lives.0 p.lives.1
-    p.evens.0 p.evens.1 p.coupled e in
+    let n = two-less s.form s.live c.args.a c.args.b r s.inside p.first p.second
+    p.first_even p.second_even p.coupled e in
     let few : s.power + 2 + 2 * ones r ≤ 96 = omega (arith, n, s.few) in record {
-      inside = low s.form s.live c.args.a c.args.b r s.inside p.lives.0 p.lives.1 p.evens.0
-          p.evens.1 p.coupled e;
+      inside = low s.form s.live c.args.a c.args.b r s.inside p.first p.second p.first_even
+          p.second_even p.coupled e;
       few = few;
     }
 
@@ -95,14 +71,18 @@ returns c =
     let r = c.turned-rest.result in
     let e = c.turned-rest.ensures ∙ ap (λ x. bit_xor x (2 ^ c.args.b)) c.turned.ensures in
     record {
-      same = pair_left s.form s.live c.args.a c.args.b s.inside p.lives.0 p.lives.1
-          p.evens.0 p.evens.1 p.coupled
+      same = pair_left s.form s.live c.args.a c.args.b s.inside p.first p.second
+          p.first_even p.second_even p.coupled
           c.add_phase.new.self c.add_parity.new.self c.add_parity-2.new.self c.add_product.new.self
           c.linear-alpha.result c.linear-beta.result
           c.partners.result c.partners-2.result r s.power c.linear-alpha.ensures.value
           c.linear-beta.ensures.value c.partners.ensures c.partners-2.ensures e
-          c.add_phase.ensures c.add_parity.ensures c.add_parity-2.ensures c.add_product.ensures;
-      count = two-less s.form s.live c.args.a c.args.b r s.inside p.lives.0 p.lives.1
-          p.evens.0 p.evens.1 p.coupled e;
+          c.add_phase.ensures (λ x. c.add_parity.ensures x ∙ ap (λ t. (value_at c.add_phase.new.self x + t * dot (bit_and c.partners-2.result r) x) % 8)
+          (twice-half s.form.odd s.form.neg c.args.a c.linear-alpha.result c.linear-alpha.ensures.value))
+          (λ x. c.add_parity-2.ensures x ∙ ap (λ t. (value_at c.add_parity.new.self x + t * dot (bit_and c.partners.result r) x) % 8)
+          (twice-half s.form.odd s.form.neg c.args.b c.linear-beta.result c.linear-beta.ensures.value))
+          c.add_product.ensures;
+      count = two-less s.form s.live c.args.a c.args.b r s.inside p.first p.second
+          p.first_even p.second_even p.coupled e;
       powers = refl;
     }

@@ -1,6 +1,0 @@
-use Rattle.std.proofs.Common.{arith, codes, rules}
-use Rattle.std.proofs.lemmas.Slice.Eq.{text_from_reads}
-use Rattle.console.proofs.command.VerbTryFromRefSliceU8.try_from.Goals as goal
-
-pub returns-in-coordinates : goal.returns-in-coordinates
-returns-in-coordinates c = text_from_reads c.args.word.now (codes "coordinates") (omega arith) (search rules)
