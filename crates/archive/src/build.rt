@@ -104,7 +104,7 @@ impl StateBits<'_> {
         ensures same { body.new.form ≡ body.old.form }
     {
         let mut pivots = Pivots::new();
-        // row by row, for each is tested against those before it
+        // by row numbers, which tell the places of the rows in the bits: there is no slice of rows to go over
         for a in 0..self.shape.k {
             let Some(pivot) = body.append_row(self.row(a)) else {
                 unreachable()

@@ -30,7 +30,7 @@ fn alone(bytes: &[u8]) -> Result<(), StateFault>
     Ok(())
 }
 
-// Reads the state that the bytes hold. It writes in place, as every call that can be refused: refused, the state stays as it was.
+// Reads the state that the bytes hold, in the place of one that the caller has, which may be in fixed memory; refused, that stays as it was.
 pub fn read(state: &mut StabilizerState, bytes: &[u8]) -> Result<(), StateFault>
     ensures verdict { Blames result (alone_fault bytes.now) }
     ensures first { MatchResult result (λ _. Faultless (alone_verdicts bytes.now)) (First (alone_verdicts bytes.now)) }

@@ -146,7 +146,7 @@ pub fn view<'a>(archive: &'a [u8], i: u64) -> Result<&'a [u8], Denial<ArchiveFau
     Ok(&archive[part])
 }
 
-// Reads the state with the number from an archive, in place as `read` does; denied, the state stays as it was.
+// Reads the state with the number from an archive, in the place of one that the caller has, as `read` does; denied, that stays as it was.
 pub fn take(state: &mut StabilizerState, archive: &[u8], i: u64) -> Result<(), Denial<ArchiveFault>>
     ensures verdict { Blames result (denied archive.now i) }
     ensures state { MatchResult result (λ _. Holds archive.now (place_after archive.now (i - 1)) state.new)

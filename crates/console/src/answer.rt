@@ -96,7 +96,7 @@ pub enum Answer {
     Mark(bool),
     Aside,
     Coordinates(Coordinates),
-    // the number is what the line prints: 0 where the string was added
+    // the number of the last answer as the line prints it, 0 where nothing was refused: a Result of nothing would be made a number there
     Total {
         number: u64,
         count: u64,

@@ -46,7 +46,7 @@ impl TryFrom<&[u8]> for RingName {
     }
 }
 
-// What a line asks for. Bytes that the line has are in the operands.
+// What a line asks for. Bytes that the line has are in the operands. Commands are told apart by cases, since each asks for another call.
 #[derive(Clone, Copy)]
 pub enum Command {
     Help,

@@ -1,4 +1,5 @@
-// Lists an archive: standard input has its bytes, standard output gets a line for each pair of its states.
+// Lists an archive: standard input has its bytes, standard output gets a line for each pair of its states. `describe` has a `main` like this
+// one, since each program has its own.
 #![tactic(auto)]
 
 use listing::sheets::{Document, Listing};

@@ -48,7 +48,7 @@ struct Remaining {
 
 impl Remaining {
     // Sums out every live variable; None where the sum is 0. What is left stays in its place: handed on by value from step to step,
-    // it made listings a third slower.
+    // it made listings 13 to 83 percent slower.
     fn finish(&mut self) -> Option<()>
         ensures { MatchOption result (Cancelled self.old.form self.old.live self.old.power)
             (λ _. Ended self.old.form self.new.form self.old.live self.old.power self.new.power) }

@@ -9,7 +9,7 @@ use quadratic::intersection::Intersection;
 use quadratic::sum::exponential_sum;
 
 // Writes the intersection of two states: the strings that are in both spaces, each with the phase of s less that of t.
-// A rule of the project: a call writes in place and, refused, leaves it as it was.
+// It takes the place of one that the caller has, which may be in fixed memory; refused, that stays as it was.
 pub fn intersect(
     out: &mut Intersection,
     t: &StabilizerState,

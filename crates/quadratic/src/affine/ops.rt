@@ -71,7 +71,7 @@ impl AffineSpace {
         ensures below { result < 2 ^ 48 }
         ensures bits { (p : ℕ) → digit result p ≡ parity w (row self.now.rows p) }
     {
-        // by the pivots alone: with `odd_rows` of all 48 rows, where the others are 0, an overlap takes 24 to 97 percent more instructions
+        // by the pivots alone: with `odd_rows` of all 48, where the others are 0, overlaps take up to 97 percent more instructions
         let mut l = 0;
         for p in set_bits(self.pivots) {
             l ^= dot(w, self.rows[p]) << p;
@@ -220,7 +220,8 @@ impl AffineSpace {
         Some(p)
     }
 
-    // Another shift, where it is 0 at every pivot; false where it is not, as a set's `insert` answers.
+    // Another shift, where it is 0 at every pivot; false where it is not, as a set's `insert` answers: an Option of
+    // nothing would say no more.
     pub(crate) fn set_shift(&mut self, shift: u64) -> bool
         ensures { Shifted result self.old self.new shift }
     {

@@ -6,7 +6,7 @@ use super::QuadraticForm;
 use crate::bits::odd_rows;
 
 impl QuadraticForm {
-    // Adds 2 * quarters where the parity of the mask is not `base`.
+    // Adds 2 * quarters where the parity of the mask is not `base`. Mask and base are two arguments, since callers compute each by itself.
     pub(crate) fn add_affine(&mut self, quarters: u8, base: bool, mask: u64)
         requires { mask < 2 ^ 48 }
         ensures { (c : ℕ) → value_at self.new c ≡ (value_at self.old c + 2 * quarters * bit_xor (numeral base) (parity mask c)) % 8 }

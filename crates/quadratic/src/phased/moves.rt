@@ -36,8 +36,8 @@ impl PhasedSpace {
         self.form.add_phase(k % 8);
     }
 
-    // Adds 2 * quarters where the parity with w is not `base`. The two are arguments and no struct: each caller has them apart, and they are
-    // parted again here.
+    // Adds 2 * quarters where the parity with w is not `base`. Word and base are two arguments here and below: a struct of them would be opened
+    // in the first line.
     pub(crate) fn add_affine(&mut self, quarters: u8, base: bool, w: u64)
         ensures { Turned self.old self.new (λ y. 2 * quarters * bit_xor (numeral base) (parity w y)) }
     {

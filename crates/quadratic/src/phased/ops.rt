@@ -31,14 +31,16 @@ impl PhasedSpace {
         self.space.append(row)
     }
 
-    // Another shift, where it is 0 at every pivot; false where it is not, as a set's `insert` answers.
+    // Another shift, where it is 0 at every pivot; false where it is not. Such an answer is a yes or no, as that of a set's `insert`: an Option
+    // of nothing would say no more.
     pub fn set_shift(&mut self, shift: u64) -> bool
         ensures { Reshifted result self.old self.new shift }
     {
         self.space.set_shift(shift)
     }
 
-    // Adds an even number to the linear coefficient of the row with the pivot p; false where there is none, as a set's `insert` answers.
+    // Adds an even number to the linear coefficient of the row with the pivot p; false where there is none, for
+    // the same reason.
     pub fn add_linear(&mut self, p: usize, times: u64) -> bool
         ensures { LinearAdded result self.old self.new p times }
     {
@@ -49,7 +51,8 @@ impl PhasedSpace {
         true
     }
 
-    // Turns over the coupling of the rows with the pivots p and q; false where there are no two such rows, as a set's `insert` answers.
+    // Turns over the coupling of the rows with the pivots p and q; false where there are no two such
+    // rows, for the same reason.
     pub fn couple(&mut self, p: usize, q: usize) -> bool
         ensures { Coupled result self.old self.new p q }
     {
