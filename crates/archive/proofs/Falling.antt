@@ -1,5 +1,5 @@
 -- The set bits of a mask, from the top.
-use Rattle.std.proofs.Common.{◌≡◌, ℕ, ◌+◌, ◌^◌, ◌<◌, ◌⊎◌, refl, List, [], ◌∷◌, ◌++◌, length, get_or, sym, ap, ◌∙◌, subst, inl, inr, arith, length-append, below_more, zero-add}
+use Rattle.std.proofs.Common.{◌≡◌, ℕ, ◌+◌, ◌^◌, ◌<◌, ◌⊎◌, refl, List, [], ◌∷◌, ◌++◌, length, get_or, sym, ap, ◌∙◌, subst, inl, inr, arith, length-append, below_more}
 use lib.Count.{ones, ones-le}
 use Rattle.std.proofs.Math.ListN.{get_or-append}
 use Rattle.std.proofs.Math.Seq.{get_or-append_seam}
@@ -18,19 +18,6 @@ pub record Sofar (mask left : ℕ) (leads : List ℕ) : Type 0 where
   pub on : (a : ℕ) → a < length leads → bit mask (get_or leads a 0) ≡ 1
   pub order : (a c : ℕ) → a < c → c < length leads → get_or leads c 0 < get_or leads a 0
   pub all : (q : ℕ) → bit mask q ≡ 1 → (bit left q ≡ 1) ⊎ ((a : ℕ) × (a < length leads) × (q ≡ get_or leads a 0))
-
-none : (mask : ℕ) → Sofar mask mask []
-none mask = record {
-  count = zero-add (ones mask);
-  part = λ q o. o;
-  high = λ a l. absurd (omega arith);
-  on = λ a l. absurd (omega arith);
-  order = λ a c l m. absurd (omega arith);
-  all = λ q o. inl o;
-}
-
-pub begun : (mask left : ℕ) (leads : List ℕ) → left ≡ mask → leads ≡ [] → Sofar mask left leads
-begun mask left leads l e = rw (l, e) (none mask)
 
 module _ (mask left p left' : ℕ) (leads : List ℕ) (few : mask < 2 ^ 48) (inside : left < 2 ^ 48) (top : Highest left p left')
     (w : Sofar mask left leads) where

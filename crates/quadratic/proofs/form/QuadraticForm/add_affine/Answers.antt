@@ -1,5 +1,5 @@
 use Rattle.std.proofs.Common.{◌≡◌, ℕ, ◌+◌, ◌-◌, ◌*◌, ◌%◌, ◌<◌, sym, ap, ◌∙◌, arith}
-use lib.Bits.{bit_xor, xor_zero_l}
+use lib.Bits.{bit_xor}
 use Rattle.quadratic.specs.Bits.{dot, flag}
 use Rattle.quadratic.specs.Value.{value_at}
 use Rattle.quadratic.proofs.Bitlaws.{digit}
@@ -18,11 +18,3 @@ returns-then-base c =
     λ p. c.add_parity.ensures p ∙ ap (λ x. (x + 2 * (4 - q % 4) * dot m p) % 8) (c.add_phase.ensures p)
     ∙ taken (value_at f p) q (dot m p) (dot-lt m p)
     ∙ ap (λ b. (value_at f p + 2 * q * bit_xor (flag b) (dot m p)) % 8) (sym c.if-base.true)
-
-pub returns-else-base : goal.returns-else-base
-returns-else-base c =
-    let f = c.args.self.now in
-    let q = c.args.quarters in
-    let m = c.args.mask in
-    λ p. c.add_parity-else-base.ensures p ∙ ap (λ x. (value_at f p + 2 * q * x) % 8) (sym (xor_zero_l (dot m p)))
-    ∙ ap (λ b. (value_at f p + 2 * q * bit_xor (flag b) (dot m p)) % 8) (sym c.if-base.false)
