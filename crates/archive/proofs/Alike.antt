@@ -49,7 +49,7 @@ module _ (s t : PhasedSpace) (h : SamePhases s t) where
   }
 
 -- what holds a state holds every state with its amplitudes
-pub holds_of : (b : List ℕ) (p : ℕ) (s t : StabilizerState) → SameState s t → Holds b p s → Holds b p t
+holds_of : (b : List ℕ) (p : ℕ) (s t : StabilizerState) → SameState s t → Holds b p s → Holds b p t
 holds_of b p s t h v =
     let same = same_body s t h in
     record {

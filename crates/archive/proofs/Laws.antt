@@ -6,7 +6,7 @@ use lib.Pow.{high, mod-pow-add}
 use Rattle.std.proofs.lemmas.Nat.{one_shl}
 use Rattle.archive.specs.Bits.{bit_at, bits_from}
 
-pub bit_below : (b : List ℕ) (i : ℕ) → bit_at b i < 2
+bit_below : (b : List ℕ) (i : ℕ) → bit_at b i < 2
 unfolding bit_at
 bit_below b i = omega arith
 
@@ -69,7 +69,7 @@ pub same_bits : (b d : List ℕ) (p w : ℕ) → bits_from b p w ≡ bits_from d
 same_bits b d p w e j h = bit-of b p w j h ∙ ap (λ x. x / 2 ^ (w - suc j) % 2) e ∙ sym (bit-of d p w j h)
 
 -- a field inside one byte
-pub bits-chunk : (b : List ℕ) (p w : ℕ) → p % 8 + w ≤ 8 → bits_from b p w ≡ get_or b (p / 8) 0 / 2 ^ (8 - p % 8 - w) % 2 ^ w
+bits-chunk : (b : List ℕ) (p w : ℕ) → p % 8 + w ≤ 8 → bits_from b p w ≡ get_or b (p / 8) 0 / 2 ^ (8 - p % 8 - w) % 2 ^ w
 bits-chunk b p zero h = rw (bits_none b p) (omega arith)
 bits-chunk b p (suc w) h =
     let x = get_or b (p / 8) 0 in

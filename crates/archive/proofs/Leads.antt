@@ -39,7 +39,7 @@ module _ (v : ℕ) (pos : 0 < v) (low : v < 2 ^ 48) where
       let e : 2 ^ lead v + (v - 2 ^ lead v) ≡ v = omega arith in
       ap (λ x. bit x (lead v)) (sym e) ∙ bit-top (lead v) (v - 2 ^ lead v) (omega arith)
 
-  pub lead_low : (n : ℕ) → v < 2 ^ n → lead v < n
+  lead_low : (n : ℕ) → v < 2 ^ n → lead v < n
   lead_low n h = elim (cases_lt (lead v) n) [
     | inl l ↦ l
     | inr g ↦ let m : 2 ^ n ≤ 2 ^ lead v = pow_mono g in absurd (omega (arith, top.0))

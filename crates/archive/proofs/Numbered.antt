@@ -61,7 +61,7 @@ module _ (n mask k : ℕ) (f : ℕ → ℕ) (h : Numbers (suc n) mask k f) where
       under a (no ne) l = let b = h.below a l in omega arith
 
 -- row a + 1 is the one at f a
-pub place_of : (n mask k : ℕ) (f : ℕ → ℕ) → Numbers n mask k f → (a : ℕ) → a < k → place n mask (suc a) ≡ Some (f a)
+place_of : (n mask k : ℕ) (f : ℕ → ℕ) → Numbers n mask k f → (a : ℕ) → a < k → place n mask (suc a) ≡ Some (f a)
 place_of zero mask k f h a l = absurd (omega (arith, h.below a l))
 place_of (suc n) mask k f h zero l = elim (ℕ_discrete (bit mask n) 1) [
   | yes o ↦ place_here n mask 1 o refl ∙ ap Some (top n mask k f h o)

@@ -31,7 +31,7 @@ module _ (f g : ℕ → ℕ) (k : ℕ) (down : (a : ℕ) → a < k → (c : ℕ)
     ]
   ]
 
-  pub same_runs : (m : ℕ) → m ≤ k → (j : ℕ) → j < m → f j ≡ g j
+  same_runs : (m : ℕ) → m ≤ k → (j : ℕ) → j < m → f j ≡ g j
   same_runs zero h j l = absurd (omega arith)
   same_runs (suc m) h j l =
       let before = same_runs m (omega arith) in

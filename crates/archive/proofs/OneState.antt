@@ -38,7 +38,7 @@ module _ (s : PhasedSpace) where
       | inr ne ↦ ap (λ x. x * bit P i) (bit-pow-other q i ne) ∙ zero-mul (bit P i)
     ]
 
-  pub idle-linear : (q : ℕ) → q < 48 → bit P q ≡ 0 → coefficient_at s q ≡ 0
+  idle-linear : (q : ℕ) → q < 48 → bit P q ≡ 0 → coefficient_at s q ≡ 0
   idle-linear q l z =
       drop-same s.form.phase (coefficient_at s q) (coef-low s.form q)
       (sym (value-one s.form q l) ∙ s.idle (2 ^ q) ∙ ap (value_at s.form) (part q z) ∙ value-zero s.form)
@@ -56,7 +56,7 @@ module _ (s : PhasedSpace) where
         | inr ne ↦ ap (λ y. (y + bit (2 ^ j) x) * bit P x) (bit-pow-other i x ne) ∙ ap (λ y. y * bit P x) (zero-add (bit (2 ^ j) x))
       ]
 
-  pub idle-link : (k b i j : ℕ) → k < 48 → b < k → bit P i ≡ 0 → i < 48 → j < 48
+  idle-link : (k b i j : ℕ) → k < 48 → b < k → bit P i ≡ 0 → i < 48 → j < 48
       → ((x : ℕ) → bit (2 ^ k) x + bit (2 ^ b) x ≡ bit (2 ^ i) x + bit (2 ^ j) x)
       → coefficient_at s b + coefficient_at s k ≡ coefficient_at s i + coefficient_at s j
       → link s.form.coupling k b ≡ 0

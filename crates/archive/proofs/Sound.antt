@@ -33,7 +33,7 @@ module _ (b : List ℕ) (p : ℕ) (x : Part) (xs : List Part) (e : first_fault b
   pub later : first_fault b (p + x.width) xs ≡ None
   later = sym (fine b p x xs _ refl there unbroken) ∙ e
 
-pub later-copies : (b : List ℕ) (p m : ℕ) (x : Part) (xs : List Part) → first_fault b p (copies m x ++ xs) ≡ None
+later-copies : (b : List ℕ) (p m : ℕ) (x : Part) (xs : List Part) → first_fault b p (copies m x ++ xs) ≡ None
     → first_fault b (p + m * x.width) xs ≡ None
 later-copies b p zero x xs e = rw (zero-mul x.width, add-zero p) e
 later-copies b p (suc m) x xs e =

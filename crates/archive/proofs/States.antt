@@ -12,7 +12,7 @@ use Rattle.archive.proofs.First.{none-some}
 use Rattle.archive.proofs.Steps.{or_assoc}
 
 -- the first of verdicts after verdicts
-pub first-joined : {F : Type 0} (xs ys : List (Option F)) → first (xs ++ ys) ≡ or_else (first xs) (first ys)
+first-joined : {F : Type 0} (xs ys : List (Option F)) → first (xs ++ ys) ≡ or_else (first xs) (first ys)
 unfolding first
 first-joined [] ys = refl
 first-joined (x ∷ xs) ys = ap (or_else x) (first-joined xs ys) ∙ sym (or_assoc x (first xs) (first ys))

@@ -16,7 +16,7 @@ use Rattle.archive.proofs.Leads.{row-lead, order}
 
 -- different rows have different leads
 module _ (b : List ℕ) (p n k : ℕ) (good : Sound b p n k) where
-  pub lead-apart : (i j : ℕ) → i < k → j < k → i ≢ j → lead (row_at b p n i) ≢ lead (row_at b p n j)
+  lead-apart : (i j : ℕ) → i < k → j < k → i ≢ j → lead (row_at b p n i) ≢ lead (row_at b p n j)
   lead-apart i j l m ne e = elim (cases_lt i j) [
     | inl h ↦ let o = order b p n k good j m i h in omega arith
     | inr h ↦ let o = order b p n k good i l j (omega arith) in omega arith

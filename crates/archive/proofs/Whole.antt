@@ -22,23 +22,23 @@ module _ (b : List ℕ) (p n k : ℕ) (en : n ≡ size_at b p) (ek : k ≡ rank_
   end_is = ap₂ (λ m j. padded (p + bits_before_fill m j)) (sym en) (sym ek)
 
   module _ (h : first_fault b p (header n) ≡ None) where
-    pub after-header : state_fault b p ≡ first_fault b (p + 28) (rows b p n 0 k ++ tail b p n k)
+    after-header : state_fault b p ≡ first_fault b (p + 28) (rows b p n 0 k ++ tail b p n k)
     after-header = whole ∙ passes b p (header n) _ h (p + 28) (omega arith)
 
     module _ (r : first_fault b (p + 28) (rows b p n 0 k) ≡ None) where
-      pub after-all-rows : state_fault b p ≡ first_fault b (p + 28 + k * n) (tail b p n k)
+      after-all-rows : state_fault b p ≡ first_fault b (p + 28 + k * n) (tail b p n k)
       after-all-rows = after-header ∙ passes b (p + 28) (rows b p n 0 k) _ r _ (after-rows b p n 0 k (p + 28))
 
       module _ (s : first_fault b (p + 28 + k * n) (shift b p n k ∷ []) ≡ None) where
         abbrev q : ℕ
         q = p + 28 + k * n + n
 
-        pub after-shift : state_fault b p
+        after-shift : state_fault b p
             ≡ first_fault b q (copies k linear ++ (copies (pairs k) coupling ++ fill (p + bits_before_fill n k) ∷ []))
         after-shift = after-all-rows ∙ passes b (p + 28 + k * n) (shift b p n k ∷ []) _ s q refl
 
         module _ (l : first_fault b q (copies k linear) ≡ None) where
-          pub after-linear : state_fault b p ≡ first_fault b (q + k * 2) (copies (pairs k) coupling ++ fill (p + bits_before_fill n k) ∷ [])
+          after-linear : state_fault b p ≡ first_fault b (q + k * 2) (copies (pairs k) coupling ++ fill (p + bits_before_fill n k) ∷ [])
           after-linear = after-shift ∙ passes b q (copies k linear) _ l (q + k * 2) (after-copies linear k q)
 
           pub after-coupling : first_fault b (q + k * 2) (copies (pairs k) coupling) ≡ None

@@ -33,25 +33,25 @@ module _ (s : AffineSpace) (p : ℕ) (on : bit s.pivots p ≡ 1) where
   pub own-bit : bit (row s.rows p) p ≡ 1
   own-bit = seen p on ∙ bit-pow p
 
-  pub other-bit : (q : ℕ) → bit s.pivots q ≡ 1 → q ≢ p → bit (row s.rows p) q ≡ 0
+  other-bit : (q : ℕ) → bit s.pivots q ≡ 1 → q ≢ p → bit (row s.rows p) q ≡ 0
   other-bit q e ne = seen q e ∙ bit-pow-other p q ne
 
-  pub pivot-low : (n : ℕ) → s.pivots < 2 ^ n → p < n
+  pivot-low : (n : ℕ) → s.pivots < 2 ^ n → p < n
   pivot-low n h = elim (cases_lt p n) [ inl l ↦ l | inr g ↦ absurd (omega (arith, bit_past n s.pivots p h g)) ]
 
   pub row_below : (n : ℕ) → s.pivots < 2 ^ n → row s.rows p < 2 ^ n
   row_below n h = let m : 2 ^ suc p ≤ 2 ^ n = pow_mono (pivot-low n h) in omega (arith, s.low p)
 
-  pub row-some : 0 < row s.rows p
+  row-some : 0 < row s.rows p
   row-some = elim (cases_eq (row s.rows p) 0) [
     | inl z ↦ absurd (omega (arith, own-bit, ap (λ x. bit x p) z, bit-zero p))
     | inr z ↦ omega arith
   ]
 
-  pub lead-pivot : lead (row s.rows p) ≡ p
+  lead-pivot : lead (row s.rows p) ≡ p
   lead-pivot = sym (lead-only (row s.rows p) row-some (row_below 48 s.within) p own-bit (s.low p))
 
-pub off-shift : (s : AffineSpace) (q : ℕ) → bit s.pivots q ≡ 1 → bit s.shift q ≡ 0
+off-shift : (s : AffineSpace) (q : ℕ) → bit s.pivots q ≡ 1 → bit s.shift q ≡ 0
 off-shift s q e =
     sym (mul-one (bit s.shift q)) ∙ ap (λ x. bit s.shift q * x) (sym e) ∙ sym (bit-and s.shift s.pivots q)
     ∙ ap (λ x. bit x q) s.clean ∙ bit-zero q
@@ -70,15 +70,15 @@ off-from b p n v (suc a) h = and_from _ _ (eq-eqb _ 0 (h a (omega arith))) (off-
 -- the same fields, by the parts of the state
 module _ (b : List ℕ) (s : StabilizerState) (n k loss : ℕ) (leads : List ℕ) (t : PhasedSpace) (en : n ≡ s.qubits) (el : loss ≡ s.loss)
     (et : t ≡ s.body) where
-  pub header_of : HeaderPut b n k loss t.form.phase → HeaderPut b s.qubits k s.loss s.body.form.phase
+  header_of : HeaderPut b n k loss t.form.phase → HeaderPut b s.qubits k s.loss s.body.form.phase
   header_of h =
       subst (λ m. HeaderPut b m k s.loss s.body.form.phase) en
       (subst (λ l. HeaderPut b n k l s.body.form.phase) el (subst (λ x. HeaderPut b n k loss x.form.phase) et h))
 
-  pub rows_of : RowsPut b n k leads t → RowsPut b s.qubits k leads s.body
+  rows_of : RowsPut b n k leads t → RowsPut b s.qubits k leads s.body
   rows_of r = subst (λ m. RowsPut b m k leads s.body) en (subst (RowsPut b n k leads) et r)
 
-  pub form_of : FormPut b n k leads t → FormPut b s.qubits k leads s.body
+  form_of : FormPut b n k leads t → FormPut b s.qubits k leads s.body
   form_of f = subst (λ m. FormPut b m k leads s.body) en (subst (FormPut b n k leads) et f)
 
 module _ (b : List ℕ) (s : StabilizerState) (k : ℕ) (leads : List ℕ) (ek : k ≡ ones s.body.space.pivots)

@@ -48,7 +48,7 @@ pub scaled-one : (n k : ℕ) (x : Triple) → x.0 ≡ 1 → pos n +ℤ x.1 ≡ p
 unfolding scaled
 scaled-one n k x o e = ap₂ (λ d p. chosen omegas d p x.2) o e
 
-pub exact-mod : (k i j : ℕ) → i % 8 ≡ j % 8 → exact omegas k i ≡ exact omegas k j
+exact-mod : (k i j : ℕ) → i % 8 ≡ j % 8 → exact omegas k i ≡ exact omegas k j
 exact-mod k i j e = ap (◌⊗◌ (rpow omegas k)) (RingFacts.wpow-mod omega-laws i j e)
 
 pub scaled-unit : (n k : ℕ) (p : ℤ) (m : ℕ) → pos n +ℤ p ≡ pos k → scaled n (unit p m) ≡ exact omegas k m
@@ -103,7 +103,7 @@ scaled-product a b i k p q m l j ei ek e =
 
 -- ---- scalars are told apart
 
-pub scaled-not-nil : (n : ℕ) (x : Triple) → Floor n x → x.0 ≡ 1 → scaled n x ≡ nil → ⊥
+scaled-not-nil : (n : ℕ) (x : Triple) → Floor n x → x.0 ≡ 1 → scaled n x ≡ nil → ⊥
 scaled-not-nil n x f o e = exact-not-nil (f o).0 x.2 (sym (scaled-one n (f o).0 x o (f o).1) ∙ e)
 
 -- only 0 has the value 0

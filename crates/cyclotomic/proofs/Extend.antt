@@ -17,14 +17,14 @@ module _ {A B : Type 0} {o : Ops A} {p : Ops B} (from : CommLaws o) (to : CommLa
   nil-to = CommFacts.cancel to _ _ (h o.nil)
       (sym (hom.plus_to o.nil o.nil) ∙ ap h (from.plus_nil o.nil) ∙ sym (CommFacts.nil_plus to _))
 
-  pub extend-hom : (s : A) (t : B) → p.times t t ≡ h s → Hom (adjoin o s) p (extend p h t)
+  extend-hom : (s : A) (t : B) → p.times t t ≡ h s → Hom (adjoin o s) p (extend p h t)
   extend-hom s t square = record {
     one_to = simp (extend, hom.one_to, nil-to, units, to);
     plus_to = λ x y. simp (extend, hom.plus_to, ring, to);
     times_to = λ x y. simp (extend, hom.plus_to, hom.times_to, ← square, ring, to);
   }
 
-  pub extend-w : (s : A) (t : B) → extend p h t (adjoin o s).w ≡ t
+  extend-w : (s : A) (t : B) → extend p h t (adjoin o s).w ≡ t
   extend-w s t = simp (extend, hom.one_to, nil-to, units, to)
 
   pub sum-to-to : (f : ℕ → A) (n : ℕ) → h (sum_to o f n) ≡ sum_to p (λ c. h (f c)) n
@@ -41,7 +41,7 @@ module _ {A B : Type 0} {o : Ops A} {p : Ops B} (from : CommLaws o) (to : CommLa
     rpow-to (suc m) = hom.times_to (root o) (rpow o m)
         ∙ ap₂ p.times (hom.plus_to (wpow o 1) (wpow o 7) ∙ ap₂ p.plus (wpow-to 1) (wpow-to 7)) (rpow-to m)
 
-    pub exact-to : (i m : ℕ) → h (exact o i m) ≡ exact p i m
+    exact-to : (i m : ℕ) → h (exact o i m) ≡ exact p i m
     exact-to i m = hom.times_to (rpow o i) (wpow o m) ∙ ap₂ p.times (rpow-to i) (wpow-to m)
 
 module _ {R : Type 0} {o : Ops R} (laws : CommLaws o) where
@@ -66,7 +66,7 @@ module _ {R : Type 0} {o : Ops R} (laws : RingLaws o) where
       (simp (int_to, units, comm.times_assoc, comm)
       (ap (λ x. o.times o.w (o.times o.w (o.times o.w x))) (sym (comm.times_one o.w)) ∙ RingFacts.wpow-four laws))
 
-  pub omega-hom : Hom omegas o (omega_to o)
+  omega-hom : Hom omegas o (omega_to o)
   unfolding omegas
   omega-hom = extend-hom (gauss_laws int_laws) comm (gauss_to o) gauss-hom (gauss ints).w o.w
       (sym (extend-w int_laws comm (int_to o) (int-hom comm) (negsuc 0) _))

@@ -11,4 +11,5 @@ pub mod Residues
 pub mod Powers
 pub mod Lift
 pub mod Sizes
+pub mod Zeros
 pub mod Padded

@@ -18,7 +18,7 @@ module _ {R : Type 0} {o : Ops R} (laws : CommLaws o) where
       ap (◌⊗◌ r) (square-power x (n / 2) ∙ ap (power o x) e)
 
   -- an odd one
-  pub odd_step : (r x : R) (n : ℕ) → n % 2 ≡ 1 → (r ⊗ x) ⊗ power o (x ⊗ x) (n / 2) ≡ r ⊗ power o x n
+  odd_step : (r x : R) (n : ℕ) → n % 2 ≡ 1 → (r ⊗ x) ⊗ power o (x ⊗ x) (n / 2) ≡ r ⊗ power o x n
   odd_step r x n h =
       let e : suc (n / 2 + n / 2) ≡ n = omega arith in
       times_assoc r x _ ∙ ap (◌⊗◌ r) (ap (◌⊗◌ x) (square-power x (n / 2)) ∙ ap (power o x) e)

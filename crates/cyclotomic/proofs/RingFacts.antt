@@ -31,10 +31,10 @@ module _ {R : Type 0} {o : Ops R} (laws : RingLaws o) where
   wpow-four = cancel comm (wpow o 4) (neg one) one
       (simp (← times_assoc, times_one) (w_fourth ∙ sym (plus_comm (neg one) one ∙ plus_neg one)))
 
-  pub wpow-four-more : (m : ℕ) → wpow o (4 + m) ≡ neg (wpow o m)
+  wpow-four-more : (m : ℕ) → wpow o (4 + m) ≡ neg (wpow o m)
   wpow-four-more m = wpow-add 4 m ∙ ap (λ s. s ⊗ wpow o m) wpow-four ∙ neg_times comm one (wpow o m) ∙ ap neg (one_times comm (wpow o m))
 
-  pub wpow-eight : (m : ℕ) → wpow o (8 + m) ≡ wpow o m
+  wpow-eight : (m : ℕ) → wpow o (8 + m) ≡ wpow o m
   wpow-eight m =
       let e : 8 + m ≡ 4 + (4 + m) = omega arith in
       ap (wpow o) e ∙ wpow-four-more (4 + m) ∙ ap neg (wpow-four-more m) ∙ neg_neg comm (wpow o m)
@@ -53,11 +53,11 @@ module _ {R : Type 0} {o : Ops R} (laws : RingLaws o) where
   pub wpow-mod : (m n : ℕ) → m % 8 ≡ n % 8 → wpow o m ≡ wpow o n
   wpow-mod m n h = wpow-least m ∙ ap (wpow o) h ∙ sym (wpow-least n)
 
-  pub wpow-skip : (k m n : ℕ) → n ≡ 8 * k + m → wpow o n ≡ wpow o m
+  wpow-skip : (k m n : ℕ) → n ≡ 8 * k + m → wpow o n ≡ wpow o m
   wpow-skip k m n h = ap (wpow o) h ∙ wpow-eights k m
 
   -- the root times a power
-  pub root-wpow : (m : ℕ) → root o ⊗ wpow o m ≡ wpow o (1 + m) ⊕ wpow o (7 + m)
+  root-wpow : (m : ℕ) → root o ⊗ wpow o m ≡ wpow o (1 + m) ⊕ wpow o (7 + m)
   root-wpow m = plus_times comm (wpow o 1) (wpow o 7) (wpow o m) ∙ ap₂ ◌⊕◌ (sym (wpow-add 1 m)) (sym (wpow-add 7 m))
 
   pub root-square : root o ⊗ root o ≡ two o

@@ -44,7 +44,7 @@ turns-wpow : (m : ℕ) → m < 8 → turns (wpow omegas m) ≡ m
 unfolding turns omegas
 turns-wpow = RingFacts.below-eight (λ m. turns (wpow omegas m) ≡ m) refl refl refl refl refl refl refl refl
 
-pub wpow-same : (m n : ℕ) → wpow omegas m ≡ wpow omegas n → m % 8 ≡ n % 8
+wpow-same : (m n : ℕ) → wpow omegas m ≡ wpow omegas n → m % 8 ≡ n % 8
 wpow-same m n h = sym (turns-wpow (m % 8) (omega arith))
     ∙ ap turns (sym (RingFacts.wpow-least omega-laws m) ∙ h ∙ RingFacts.wpow-least omega-laws n) ∙ turns-wpow (n % 8) (omega arith)
 

@@ -1,10 +1,9 @@
-use Rattle.std.proofs.Common.{◌≡◌, ℕ, zero, suc, ◌+◌, ◌*◌, ◌<◌, Bool, true, false, eqb, sym, refl, ap, ◌∙◌, ap₂, add-zero, add-suc, suc-mul, zero-mul, arith, eq-eqb, ne_eqb}
+use Rattle.std.proofs.Common.{◌≡◌, ℕ, zero, suc, ◌<◌, Bool, true, false, eqb, sym, refl, ap, ◌∙◌, ap₂, arith, eq-eqb, ne_eqb}
 use native.Mathlib.Decide.{ℕ_discrete}
 use borrow.Author.Tests.{clash}
 use Rattle.cyclotomic.specs.Ring.{Ops, CommLaws}
 use Rattle.cyclotomic.specs.Sum.{sum_to, only}
 use Rattle.cyclotomic.specs.CommFacts
-use Rattle.cyclotomic.proofs.Maps.{num}
 
 -- φ takes the numbers below m, one to one, to those below n at which P holds
 pub record Onto (φ : ℕ → ℕ) (m n : ℕ) (P : ℕ → Bool) : Type 0 where
@@ -36,12 +35,12 @@ module _ {R : Type 0} {o : Ops R} (laws : CommLaws o) where
   sum-times x f zero = sym (CommFacts.times_nil laws x)
   sum-times x f (suc n) = ap (λ s. s ⊕ x ⊗ f n) (sum-times x f n) ∙ sym (times_plus x _ _)
 
-  pub sum-swap : (f : ℕ → ℕ → R) (n m : ℕ) → sum_to o (λ a. sum_to o (λ b. f a b) m) n ≡ sum_to o (λ b. sum_to o (λ a. f a b) n) m
+  sum-swap : (f : ℕ → ℕ → R) (n m : ℕ) → sum_to o (λ a. sum_to o (λ b. f a b) m) n ≡ sum_to o (λ b. sum_to o (λ a. f a b) n) m
   sum-swap f zero m = sym (sum-nil (λ b. nil) m (λ c l. refl))
   sum-swap f (suc n) m = ap (λ s. s ⊕ sum_to o (f n) m) (sum-swap f n m) ∙ sym (sum-plus (λ b. sum_to o (λ a. f a b) n) (f n) m)
 
   -- every term but the one at z is 0
-  pub sum_one : (f : ℕ → R) (n z : ℕ) → z < n → ((c : ℕ) → c < n → ¬ (c ≡ z) → f c ≡ nil) → sum_to o f n ≡ f z
+  sum_one : (f : ℕ → R) (n z : ℕ) → z < n → ((c : ℕ) → c < n → ¬ (c ≡ z) → f c ≡ nil) → sum_to o f n ≡ f z
   sum_one f zero z l h = absurd (omega arith)
   sum_one f (suc n) z l h = at (ℕ_discrete z n) (sum_one f n z)
     where
@@ -49,7 +48,7 @@ module _ {R : Type 0} {o : Ops R} (laws : CommLaws o) where
       at (yes e) back = ap₂ ◌⊕◌ (sum-nil f n (λ c k. h c (omega arith) (omega arith))) (ap f (sym e)) ∙ CommFacts.nil_plus laws (f z)
       at (no d) back = ap₂ ◌⊕◌ (back (omega arith) (λ c k. h c (omega arith))) (h n (omega arith) (omega arith)) ∙ plus_nil (f z)
 
-  pub delta : (f : ℕ → R) (n z : ℕ) → z < n → sum_to o (λ y. only o (eqb y z) (f y)) n ≡ f z
+  delta : (f : ℕ → R) (n z : ℕ) → z < n → sum_to o (λ y. only o (eqb y z) (f y)) n ≡ f z
   delta f n z l = sum_one _ n z l (λ c k d. ap (λ b. only o b (f c)) (ne_eqb c z d)) ∙ ap (λ b. only o b (f z)) (eq-eqb z z refl)
 
   -- the terms at φ z are the terms at which P holds
@@ -68,7 +67,7 @@ module _ {R : Type 0} {o : Ops R} (laws : CommLaws o) where
       column c l false e = sum-nil _ m (λ z j. ap (λ b. only o b (f c)) (ne_eqb c (φ z) (λ s. clash (sym e ∙ ap P s ∙ onto.holds z j))))
 
   -- φ permutes the numbers below n, with the inverse ψ
-  pub permute : (φ ψ : ℕ → ℕ) (n : ℕ) (f : ℕ → R) → ((y : ℕ) → y < n → φ y < n) → ((y : ℕ) → y < n → ψ y < n)
+  permute : (φ ψ : ℕ → ℕ) (n : ℕ) (f : ℕ → R) → ((y : ℕ) → y < n → φ y < n) → ((y : ℕ) → y < n → ψ y < n)
       → ((y : ℕ) → y < n → ψ (φ y) ≡ y) → ((y : ℕ) → y < n → φ (ψ y) ≡ y) → sum_to o (λ y. f (φ y)) n ≡ sum_to o f n
   permute φ ψ n f into out back there = reindex φ n n (λ c. true) f (record {
     into = into;

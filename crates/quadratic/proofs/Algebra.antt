@@ -23,14 +23,14 @@ sum_step F G H f g h u l =
     digit (λ u. F % 2 ≡ (G + u * H) % 2 → f % 2 ≡ (g + u * h) % 2 → (F + f) % 2 ≡ (G + g + u * (H + h)) % 2)
     (λ p q. omega arith) (λ p q. omega arith) u l
 
-pub sum-add : (f g h : ℕ → ℕ) (u n : ℕ) → u < 2 → ((k : ℕ) → k < n → f k % 2 ≡ (g k + u * h k) % 2) → sum f n % 2
+sum-add : (f g h : ℕ → ℕ) (u n : ℕ) → u < 2 → ((k : ℕ) → k < n → f k % 2 ≡ (g k + u * h k) % 2) → sum f n % 2
     ≡ (sum g n + u * sum h n) % 2
 sum-add f g h u zero l e = digit (λ u. 0 % 2 ≡ (0 + u * 0) % 2) refl refl u l
 sum-add f g h u (suc n) l e =
     sum_step (sum f n) (sum g n) (sum h n) (f n) (g n) (h n) u l (sum-add f g h u n l (λ k i. e k (omega arith))) (e n (omega arith))
 
 -- a change of the coefficients by d and s adds E, where E grows by c (d + 4 s) at each variable
-pub change-step : (q r D D' S S' d s c e e' : ℕ) → c < 2 → r % 8 ≡ (q + e) % 8 → D' % 8 ≡ (D + d) % 8 → S' % 2 ≡ (S + s) % 2
+change-step : (q r D D' S S' d s c e e' : ℕ) → c < 2 → r % 8 ≡ (q + e) % 8 → D' % 8 ≡ (D + d) % 8 → S' % 2 ≡ (S + s) % 2
     → e' % 8 ≡ (e + c * (d + 4 * s)) % 8 → (r + c * (D' + 4 * S')) % 8 ≡ (q + c * (D + 4 * S) + e') % 8
 change-step q r D D' S S' d s c e e' l h hD hS =
     digit (λ c. e' % 8 ≡ (e + c * (d + 4 * s)) % 8 → (r + c * (D' + 4 * S')) % 8 ≡ (q + c * (D + 4 * S) + e') % 8)
@@ -53,7 +53,7 @@ times-bit f g h u c l m =
     digit₂ (λ u c. f % 2 ≡ (g + u * h) % 2 → f * c % 2 ≡ (g * c + u * (h * c)) % 2) (λ e. omega arith)
     (λ e. omega arith) (λ e. omega arith) (λ e. omega arith) u c m l
 
-pub inner-add : (f g h c : ℕ → ℕ) (u n : ℕ) → ((k : ℕ) → c k < 2) → u < 2 → ((k : ℕ) → k < n → f k % 2 ≡ (g k + u * h k) % 2)
+inner-add : (f g h c : ℕ → ℕ) (u n : ℕ) → ((k : ℕ) → c k < 2) → u < 2 → ((k : ℕ) → k < n → f k % 2 ≡ (g k + u * h k) % 2)
     → inner f c n % 2 ≡ (inner g c n + u * inner h c n) % 2
 inner-add f g h c u n bits l e =
     sum-add (λ k. f k * c k) (λ k. g k * c k) (λ k. h k * c k) u n l (λ k i. times-bit (f k) (g k) (h k) u (c k) (bits k) l (e k i))
@@ -262,7 +262,7 @@ quad-same Q D J c e (suc n) h =
     ap₂ (λ q b. q + b * (D n + 4 * inner (J n) c n)) (quad-same Q D J c e n (λ k i. h k (omega arith))) (h n (omega arith))
     ∙ ap (λ s. quad Q D J e n + e n * (D n + 4 * s)) s
 
-pub inner-none : (f c : ℕ → ℕ) (n : ℕ) → ((k : ℕ) → k < n → c k ≡ 0) → inner f c n ≡ 0
+inner-none : (f c : ℕ → ℕ) (n : ℕ) → ((k : ℕ) → k < n → c k ≡ 0) → inner f c n ≡ 0
 inner-none f c zero h = refl
 inner-none f c (suc n) h = ap₂ (λ s x. s + f n * x) (inner-none f c n (λ k i. h k (omega arith))) (h n (omega arith))
     ∙ simp (mul-zero, add-zero)

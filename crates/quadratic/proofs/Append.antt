@@ -21,7 +21,7 @@ one-top x p q hp lp hq lq =
         elim (dec_lt p q) [ yes g ↦ let z = bit_past (suc p) x q l g in absurd (omega arith) | no g ↦ omega arith ]
 
 -- no bit below n is set exactly when 2^n divides
-pub none-low : (n x : ℕ) → ((i : ℕ) → i < n → bit x i ≡ 0) → x % 2 ^ n ≡ 0
+none-low : (n x : ℕ) → ((i : ℕ) → i < n → bit x i ≡ 0) → x % 2 ^ n ≡ 0
 none-low n x h = same_low n x 0 (λ i l. h i l ∙ sym (bit-zero i)) ∙ zero-mod (2 ^ n)
 
 pub low-none : (n x i : ℕ) → x % 2 ^ n ≡ 0 → i < n → bit x i ≡ 0

@@ -84,7 +84,7 @@ ones_low (suc n) x =
     ap ones (mod-more x n) ∙ ones_cat n (bit x n) (x % 2 ^ n) (mod-lt x (pow_pos n))
     ∙ ap₂ (λ a b. a + b) (ones-digit (bit x n) (bit-lt x n)) (ones_low n x) ∙ add_comm (bit x n) (sum (bit x) n)
 
-pub and_low : (n x y : ℕ) → ones (bit_and x y % 2 ^ n) ≡ inner (bit x) (bit y) n
+and_low : (n x y : ℕ) → ones (bit_and x y % 2 ^ n) ≡ inner (bit x) (bit y) n
 and_low n x y = ones_low n (bit_and x y) ∙ ap (λ f. sum f n) (fun_ext (bit-and x y))
 
 pub dot-inner : (n x y : ℕ) → x < 2 ^ n → dot x y ≡ inner (bit x) (bit y) n % 2

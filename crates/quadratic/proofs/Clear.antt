@@ -21,7 +21,7 @@ last X Y P D d h =
 
 module _ (dim phase odd neg : ℕ) (t : List ℕ) (inside : (k : ℕ) → get_or t k 0 < 2 ^ dim) (sq : (k b : ℕ) → link t k b ≡ link t b k)
     (own : (k : ℕ) → link t k k ≡ bit odd k) where
-  pub value-bit : (a c : ℕ) → a < dim
+  value-bit : (a c : ℕ) → a < dim
       → quad phase (coef odd neg) (link t) (bit (bit_xor c (2 ^ a))) dim % 8
       ≡ (quad phase (coef odd neg) (link t) (bit c) dim % 8 + (coef odd neg a + 4 * dot (get_or t a 0) c)) % 8
   value-bit a c l =
@@ -62,7 +62,7 @@ set-zero (x ∷ xs) (suc a) = set-zero xs a
 
 module _ (t t₁ : List ℕ) (here a : ℕ) (e : here ≡ 2 ^ a) (x : RowsXor t t₁ (get_or t a 0) here)
     (sq : (k b : ℕ) → link t k b ≡ link t b k) where
-  pub link_row : (b : ℕ) → link (set t₁ a 0) a b ≡ 0
+  link_row : (b : ℕ) → link (set t₁ a 0) a b ≡ 0
   link_row b = ap (λ r. bit r b) (set-zero t₁ a) ∙ bit-zero b
 
   other : (k b : ℕ) → k ≢ a → link (set t₁ a 0) k b ≡ (link t k b + link t k a * bit (2 ^ a) b) % 2
@@ -70,12 +70,12 @@ module _ (t t₁ : List ℕ) (here a : ℕ) (e : here ≡ 2 ^ a) (x : RowsXor t 
       ap (λ r. bit r b) (get_or-set_other t₁ a k 0 0 ne) ∙ link-xor t t₁ (get_or t a 0) here x k b
       ∙ ap₂ (λ p q. (link t k b + p * q) % 2) (sq a k) (ap (λ h. bit h b) e)
 
-  pub link-keep : (k b : ℕ) → k ≢ a → b ≢ a → link (set t₁ a 0) k b ≡ link t k b
+  link-keep : (k b : ℕ) → k ≢ a → b ≢ a → link (set t₁ a 0) k b ≡ link t k b
   link-keep k b p q =
       other k b p ∙ ap (λ z. (link t k b + link t k a * z) % 2) (bit-pow-other a b q)
       ∙ simp (mul-zero, add-zero) (mod-eq_of_lt (bit-lt (get_or t k 0) b))
 
-  pub link-column : (k : ℕ) → link (set t₁ a 0) k a ≡ 0
+  link-column : (k : ℕ) → link (set t₁ a 0) k a ≡ 0
   link-column k =
       elim (ℕ_discrete k a) [
         | yes i ↦ ap (λ j. link (set t₁ a 0) j a) i ∙ link_row a

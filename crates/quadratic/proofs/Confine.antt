@@ -33,7 +33,7 @@ comb-under : (s : AffineSpace) (n y : ℕ) → s.pivots < 2 ^ n → combination 
 unfolding combination
 comb-under s n y l = span-lt (row s.rows) s.low (bit_and y s.pivots) n 48 (lt_of_le_of_lt (and_le_r y s.pivots) l)
 
-pub reduced-under : (s : AffineSpace) (n y : ℕ) → s.pivots < 2 ^ n → y < 2 ^ n → reduced s.pivots (row s.rows) y < 2 ^ n
+reduced-under : (s : AffineSpace) (n y : ℕ) → s.pivots < 2 ^ n → y < 2 ^ n → reduced s.pivots (row s.rows) y < 2 ^ n
 reduced-under s n y l h = xor_lt n y (combination (row s.rows) (bit_and y s.pivots)) h (comb-under s n y l)
 
 pub member-under : (s : AffineSpace) (n y : ℕ) → Under s n → Member s y → y < 2 ^ n
@@ -47,7 +47,7 @@ pub ones-under : (n x : ℕ) → x < 2 ^ n → sum (bit x) n ≡ ones x
 ones-under n x l = sym (ones_low n x) ∙ ap ones (mod-eq_of_lt l)
 
 -- at the start nothing is asked
-pub agree-none : (s t : AffineSpace) → Agreeing s s t 0
+agree-none : (s t : AffineSpace) → Agreeing s s t 0
 agree-none s t = record {
   old = λ y m. m;
   agree = λ y j m l. absurd (omega arith);
@@ -78,7 +78,7 @@ own t y i m = ap (λ x. bit x i) (holds t y m)
 
 module _ (s s' t : AffineSpace) (i : ℕ) (a : Agreeing s s' t i) where
   -- at a pivot both are 0
-  pub agree-pivot : bit t.pivots i ≡ 1 → Agreeing s s' t (i + 1)
+  agree-pivot : bit t.pivots i ≡ 1 → Agreeing s s' t (i + 1)
   agree-pivot on = record {
     old = a.old;
     agree = λ y j m l. below_next (λ j. bit (reduced t.pivots (row t.rows) y) j ≡ bit t.shift j) i
@@ -107,7 +107,7 @@ module _ (s s' t : AffineSpace) (i : ℕ) (a : Agreeing s s' t i) where
             parity-is y ∙ bit_past n _ i (reduced-under t n y v.0 (member-under s n y u (a.old y m))) l
             ∙ sym (eb ∙ bit_past n t.shift i v.1 l)
 
-    pub agree-restricted : (s'' : AffineSpace) (b : ℕ) → b ≡ bit t.shift i → Half s' s'' w b → Agreeing s s'' t (i + 1)
+    agree-restricted : (s'' : AffineSpace) (b : ℕ) → b ≡ bit t.shift i → Half s' s'' w b → Agreeing s s'' t (i + 1)
     agree-restricted s'' b eb h = record {
       old = λ y m. a.old y (h.old y m);
       agree = λ y j m l. below_next (λ j. bit (reduced t.pivots (row t.rows) y) j ≡ bit t.shift j) i
@@ -121,7 +121,7 @@ module _ (s s' t : AffineSpace) (i : ℕ) (a : Agreeing s s' t i) where
         fall : Fallen s s'' t (i + 1)
         fall = let f = a.fall in let k = h.fewer in let e = sum-next (bit t.pivots) i in omega (arith, f, k, e, off)
 
-    pub agree-cut : (o : Outcome) (s'' : AffineSpace) (b : ℕ) → b ≡ bit t.shift i → (o ≡ Empty → ⊥)
+    agree-cut : (o : Outcome) (s'' : AffineSpace) (b : ℕ) → b ≡ bit t.shift i → (o ≡ Empty → ⊥)
         → Cut o s' s'' w b → Agreeing s s'' t (i + 1)
     agree-cut Unchanged s'' b eb ne h =
         agree-restricted s'' b eb (record {
@@ -134,7 +134,7 @@ module _ (s s' t : AffineSpace) (i : ℕ) (a : Agreeing s s' t i) where
     agree-cut Restricted s'' b eb ne h = agree-restricted s'' b eb h
 
     -- no string is left
-    pub agree-empty : (b : ℕ) → b ≡ bit t.shift i → ((y : ℕ) → Member s' y → dot w y ≡ b → ⊥) → (y : ℕ) → Member s y → Member t y → ⊥
+    agree-empty : (b : ℕ) → b ≡ bit t.shift i → ((y : ℕ) → Member s' y → dot w y ≡ b → ⊥) → (y : ℕ) → Member s y → Member t y → ⊥
     agree-empty b eb h y m n = h y (a.kept y m n) (parity-is y ∙ own t y i n ∙ sym eb)
 
 -- over positions that are pivots
@@ -145,7 +145,7 @@ hop s s' t i (suc d) on a =
     subst (Agreeing s s' t) (sym e)
     (agree-pivot s s' t (i + d) (hop s s' t i d (λ q l h. on q l (omega arith)) a) (on (i + d) (omega arith) (omega arith)))
 
-pub hop-to : (s s' t : AffineSpace) (i j : ℕ) → i ≤ j → ((q : ℕ) → i ≤ q → q < j → bit t.pivots q ≡ 1) → Agreeing s s' t i → Agreeing s s' t j
+hop-to : (s s' t : AffineSpace) (i j : ℕ) → i ≤ j → ((q : ℕ) → i ≤ q → q < j → bit t.pivots q ≡ 1) → Agreeing s s' t i → Agreeing s s' t j
 hop-to s s' t i j l on a =
     let e : i + (j - i) ≡ j = omega arith in
     subst (Agreeing s s' t) e (hop s s' t i (j - i) (λ q h k. on q h (omega (arith, e))) a)
@@ -182,14 +182,14 @@ module _ (s s' t : AffineSpace) (left i left' : ℕ) (r : Reached s s' t left) (
   reached-to = elim (dec_lt i r.place) [ yes l ↦ absurd (not-both (bit left i) (r.passed i l) low.on) | no l ↦ omega arith ]
 
   -- at the next position that is left, all below have been passed
-  pub reach-here : Agreeing s s' t i
+  reach-here : Agreeing s s' t i
   reach-here = hop-to s s' t r.place i reached-to
       (λ q l h. let z = low.least q h in let f = r.free q l (omega (arith, low.place)) in omega arith) r.agree
 
-  pub reach-off : bit t.pivots i ≡ 0
+  reach-off : bit t.pivots i ≡ 0
   reach-off = let f = r.free i reached-to low.place in let o = low.on in omega arith
 
-  pub reach-next : (s'' : AffineSpace) → Agreeing s s'' t (i + 1) → Reached s s'' t left'
+  reach-next : (s'' : AffineSpace) → Agreeing s s'' t (i + 1) → Reached s s'' t left'
   reach-next s'' a = record {
     place = i + 1;
     within = let l = low.place in omega arith;
@@ -204,6 +204,14 @@ module _ (s s' t : AffineSpace) (left i left' : ℕ) (r : Reached s s' t left) (
         let f = r.free q (omega arith) h in
         omega arith;
   }
+
+  -- the strings of s' are asked for the parity that tells the bit: none is left, or those that are left agree at this position too
+  module _ (w : ℕ) (parity-is : (y : ℕ) → dot w y ≡ bit (reduced t.pivots (row t.rows) y) i) (b : ℕ) (eb : b ≡ bit t.shift i) where
+    pub reach-empty : ((y : ℕ) → Member s' y → dot w y ≡ b → ⊥) → (y : ℕ) → Member s y → Member t y → ⊥
+    reach-empty = agree-empty s s' t i reach-here reach-off w parity-is b eb
+
+    pub reach-cut : (o : Outcome) (s'' : AffineSpace) → (o ≡ Empty → ⊥) → Cut o s' s'' w b → Reached s s'' t left'
+    reach-cut o s'' ne h = reach-next s'' (agree-cut s s' t i reach-here reach-off w parity-is o s'' b eb ne h)
 
 -- combinations of rows have 48 bits, and so have the strings of a space
 pub comb-lt : (s : AffineSpace) (y : ℕ) → combination (row s.rows) (bit_and y s.pivots) < 2 ^ 48
@@ -223,7 +231,7 @@ shared-swap (Some s') s t b = both-swap s s' t b
 shared-swap None s t h = λ y m n. h y n m
 
 -- at the end every position has been asked for
-pub agree-all : (s s' t : AffineSpace) (i : ℕ) → 48 ≤ i → Agreeing s s' t i → Both s s' t
+agree-all : (s s' t : AffineSpace) (i : ℕ) → 48 ≤ i → Agreeing s s' t i → Both s s' t
 agree-all s s' t i l a = record {
   first = a.old;
   second = λ y m.

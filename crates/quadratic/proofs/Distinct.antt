@@ -6,10 +6,14 @@ use Rattle.quadratic.specs.Bits.{span, bit}
 use Rattle.quadratic.proofs.Bitlaws.{digit, digit₂, bit-lt, bit-and, bit_past, mod-more}
 use Rattle.quadratic.proofs.Dots.{by_bits}
 use Rattle.quadratic.specs.Echelon.{row, combination, reduced}
-use Rattle.quadratic.specs.Strings.{Member, SameStrings}
+use Rattle.quadratic.specs.Strings.{Member}
 use Rattle.quadratic.specs.declared.affine.AffineSpace.{AffineSpace}
 use Rattle.quadratic.proofs.Linear.{move}
 use Rattle.quadratic.proofs.Laws.{facts, holds, shift_in, comb-pow, red-linear, red-keep, lead-bit}
+
+-- the two spaces have the same strings
+abbrev pub SameStrings : AffineSpace → AffineSpace → Type 0
+SameStrings s t = ((y : ℕ) → Member s y → Member t y) × ((y : ℕ) → Member t y → Member s y)
 
 -- no row reaches above its own position
 pub span-lt : (R : ℕ → ℕ) → ((p : ℕ) → R p < 2 ^ suc p) → (c n m : ℕ) → c < 2 ^ n → span R c m < 2 ^ n

@@ -13,7 +13,7 @@ pub below-pow : (x : ℕ) → x < 2 ^ x
 below-pow zero = pow_pos 0
 below-pow (suc x) = let h = below-pow x in let e = pow-suc 2 x in omega (arith, h, e)
 
-pub below-pow-add : (x y : ℕ) → x < 2 ^ (x + y)
+below-pow-add : (x y : ℕ) → x < 2 ^ (x + y)
 below-pow-add x y = let h : x ≤ x + y = omega arith in let p = pow_mono h in let b = below-pow x in omega (arith, p, b)
 
 -- numbers with the same digits are equal

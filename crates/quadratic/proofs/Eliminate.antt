@@ -77,7 +77,7 @@ both-four = digit₂ (λ α β. bit_and (4 * α) (4 * β) ≡ 4 * (α * β)) ref
 -- two coupled variables whose coefficients are 0 or 4
 module _ (f : QuadraticForm) (live a b : ℕ) (inside : live < 2 ^ 48) (on : bit live a ≡ 1) (on' : bit live b ≡ 1)
     (even : bit f.odd a ≡ 0) (even' : bit f.odd b ≡ 0) (coupled : bit (get_or f.coupling a 0) b ≡ 1) where
-  pub pair-apart : b ≡ a → ⊥
+  pair-apart : b ≡ a → ⊥
   pair-apart e = not-both (link f.coupling a a) (f.own a ∙ even) (ap (bit (get_or f.coupling a 0)) (sym e) ∙ coupled)
 
   pub still-on : bit (bit_xor live (2 ^ a)) b ≡ 1
@@ -126,7 +126,7 @@ ended f live power z =
     ∙ ap (omegas.times (rpow omegas power)) (over_none omega-laws.comm _ 48 0 ∙ ap (wpow omegas) (value-zero f))
 
 -- the sum over all strings, by their numbers, in any ring
-pub over-total : {R : Type 0} {o : Ops R} (laws : CommLaws o) (s : PhasedSpace) → over o (form_power o s.form) s.space.pivots 48 0
+over-total : {R : Type 0} {o : Ops R} (laws : CommLaws o) (s : PhasedSpace) → over o (form_power o s.form) s.space.pivots 48 0
     ≡ sum_over o s
 over-total {o = o} laws s =
     let P = s.space.pivots in

@@ -29,7 +29,7 @@ use Rattle.quadratic.proofs.Over.{spread-lt, twice}
 -- ---- the parts of a mask by number
 
 -- the bits of c, spread over a mask, stand inside it
-pub spread-part : (n mask c : ℕ) → bit_and (spread n mask c) mask ≡ spread n mask c
+spread-part : (n mask c : ℕ) → bit_and (spread n mask c) mask ≡ spread n mask c
 unfolding spread
 spread-part zero mask c = and_zero_l mask
 spread-part (suc n) mask c =
@@ -59,7 +59,7 @@ halves : (c d : ℕ) → c % 2 ≡ d % 2 → c / 2 ≡ d / 2 → c ≡ d
 halves c d e h = omega arith
 
 -- two numbers are spread to two masks
-pub spread-apart : (n mask c d : ℕ) → c < 2 ^ sum (bit mask) n → d < 2 ^ sum (bit mask) n → spread n mask c ≡ spread n mask d → c ≡ d
+spread-apart : (n mask c d : ℕ) → c < 2 ^ sum (bit mask) n → d < 2 ^ sum (bit mask) n → spread n mask c ≡ spread n mask d → c ≡ d
 unfolding spread
 spread-apart zero mask c d i j e = omega arith
 spread-apart (suc n) mask c d i j e =
@@ -79,7 +79,7 @@ spread-apart (suc n) mask c d i j e =
     ]
 
 -- every mask inside is met
-pub spread-onto : (n mask x : ℕ) → ((k : ℕ) → k < n → bit mask k ≡ 0 → bit x k ≡ 0)
+spread-onto : (n mask x : ℕ) → ((k : ℕ) → k < n → bit mask k ≡ 0 → bit x k ≡ 0)
     → (c : ℕ) × (c < 2 ^ sum (bit mask) n) × (spread n mask c ≡ x % 2 ^ n)
 unfolding spread
 spread-onto zero mask x h = (0, pow_pos 0, sym (mod-one x))
@@ -117,7 +117,7 @@ module _ (s : AffineSpace) where
   point-member c = (spread 48 s.pivots c, refl)
 
   -- its coordinates
-  pub point-pivots : (c : ℕ) → bit_and (point c) s.pivots ≡ spread 48 s.pivots c
+  point-pivots : (c : ℕ) → bit_and (point c) s.pivots ≡ spread 48 s.pivots c
   unfolding point
   point-pivots c =
       coordinate s.pivots (row s.rows) s.shift (facts s) (spread 48 s.pivots c) (spread-part 48 s.pivots c)

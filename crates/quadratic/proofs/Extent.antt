@@ -33,7 +33,7 @@ bits_below n x h = subst (λ k. k < 2 ^ n) (sym (by_bits x (x % 2 ^ n) same)) (m
         ]
 
 module _ (s : AffineSpace) (n : ℕ) where
-  pub shift-below : ((y : ℕ) → Member s y → y < 2 ^ n) → s.shift < 2 ^ n
+  shift-below : ((y : ℕ) → Member s y → y < 2 ^ n) → s.shift < 2 ^ n
   shift-below all = all s.shift (shift_in s)
 
   -- each row leads from the shift to another string
@@ -44,7 +44,7 @@ module _ (s : AffineSpace) (n : ℕ) where
       let other = all (bit_xor h r) (left-none s r (left-row s p) h (shift_in s)) in
       subst (λ k. k < 2 ^ n) (ap (λ k. bit_xor k h) (xor_comm h r) ∙ back r h) (xor_lt n (bit_xor h r) h other (shift-below all))
 
-  pub pivots-below : ((y : ℕ) → Member s y → y < 2 ^ n) → s.pivots < 2 ^ n
+  pivots-below : ((y : ℕ) → Member s y → y < 2 ^ n) → s.pivots < 2 ^ n
   pivots-below all =
       bits_below n s.pivots (λ p on. set_below n (row s.rows p) p (row_below all p)
       (lead-bit s.pivots (row s.rows) s.shift (facts s) p on))

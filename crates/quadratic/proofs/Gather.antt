@@ -14,10 +14,10 @@ put-at : (l b p k : ℕ) → b < 2 → bit (bit_xor l (b * 2 ^ p)) k ≡ bit_xor
 put-at l b p k s = bit-linear k l (b * 2 ^ p) ∙ ap (bit_xor (bit l k)) (linear-pick (λ x. bit x k) (bit-linear k) b (2 ^ p) s)
 
 -- a bit b is put in place p
-pub put-here : (l b p : ℕ) → b < 2 → bit l p ≡ 0 → bit (bit_xor l (b * 2 ^ p)) p ≡ b
+put-here : (l b p : ℕ) → b < 2 → bit l p ≡ 0 → bit (bit_xor l (b * 2 ^ p)) p ≡ b
 put-here l b p s off = put-at l b p p s ∙ ap₂ (λ x y. bit_xor x (b * y)) off (bit-pow p) ∙ xor_zero_l (b * 1) ∙ mul-one b
 
-pub put-other : (l b p k : ℕ) → b < 2 → (k ≡ p → ⊥) → bit (bit_xor l (b * 2 ^ p)) k ≡ bit l k
+put-other : (l b p k : ℕ) → b < 2 → (k ≡ p → ⊥) → bit (bit_xor l (b * 2 ^ p)) k ≡ bit l k
 put-other l b p k s ne = put-at l b p k s ∙ ap (λ y. bit_xor (bit l k) (b * y)) (bit-pow-other p k ne)
     ∙ ap (bit_xor (bit l k)) (mul-zero b) ∙ xor_zero_r (bit l k)
 

@@ -144,7 +144,7 @@ module _ (P : ℕ) (R : ℕ → ℕ) (h : ℕ) (f : Facts P R h) (g p : ℕ) (to
 
   -- ---- the law
 
-  pub law-either : (y : ℕ) → reduced P' R' y ≡ bit_xor h (bit h p * g) → (reduced P R y ≡ h) ⊎ (reduced P R (bit_xor y g) ≡ h)
+  law-either : (y : ℕ) → reduced P' R' y ≡ bit_xor h (bit h p * g) → (reduced P R y ≡ h) ⊎ (reduced P R (bit_xor y g) ≡ h)
   unfolding rid
   law-either y e =
       let r = reduced P R y in
@@ -160,7 +160,7 @@ module _ (P : ℕ) (R : ℕ → ℕ) (h : ℕ) (f : Facts P R h) (g p : ℕ) (to
   unfolding rid
   law-old y e = red-new y ∙ ap rid e
 
-  pub law-moved : (y : ℕ) → reduced P R (bit_xor y g) ≡ h → reduced P' R' y ≡ bit_xor h (bit h p * g)
+  law-moved : (y : ℕ) → reduced P R (bit_xor y g) ≡ h → reduced P' R' y ≡ bit_xor h (bit h p * g)
   unfolding rid
   law-moved y e =
       let r = reduced P R y in

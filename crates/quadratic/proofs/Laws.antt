@@ -79,16 +79,16 @@ part-dot l m y e = dot-and l y m ∙ ap (λ x. dot x y) e
 
 -- ---- one row
 
-pub span-low : (R : ℕ → ℕ) (c d n : ℕ) → ((k : ℕ) → k < n → bit c k ≡ bit d k) → span R c n ≡ span R d n
+span-low : (R : ℕ → ℕ) (c d n : ℕ) → ((k : ℕ) → k < n → bit c k ≡ bit d k) → span R c n ≡ span R d n
 span-low R c d zero h = refl
 span-low R c d (suc n) h = ap₂ (λ x b. bit_xor x (b * R n)) (span-low R c d n (λ k l. h k (omega arith))) (h n (omega arith))
 
-pub span_none : (R : ℕ → ℕ) (c n : ℕ) → ((k : ℕ) → k < n → bit c k ≡ 0) → span R c n ≡ 0
+span_none : (R : ℕ → ℕ) (c n : ℕ) → ((k : ℕ) → k < n → bit c k ≡ 0) → span R c n ≡ 0
 span_none R c zero h = refl
 span_none R c (suc n) h = ap₂ (λ x b. bit_xor x (b * R n)) (span_none R c n (λ k l. h k (omega arith))) (h n (omega arith))
     ∙ ap (bit_xor 0) (zero-mul (R n))
 
-pub span-one : (R : ℕ → ℕ) (p n : ℕ) → p < n → span R (2 ^ p) n ≡ R p
+span-one : (R : ℕ → ℕ) (p n : ℕ) → p < n → span R (2 ^ p) n ≡ R p
 span-one R p zero l = absurd (omega arith)
 span-one R p (suc n) l =
     elim (dec_lt p n) [
@@ -141,7 +141,7 @@ pub comb-is : (L : ℕ → ℕ) → Linear L → (R : ℕ → ℕ) → ((p : ℕ
 unfolding combination
 comb-is L l R e c h = span-linear L l R e c 48 h
 
-pub comb-map : (L M : ℕ → ℕ) → Linear L → Linear M → (R : ℕ → ℕ) → ((p : ℕ) → L (R p) ≡ M (2 ^ p)) → (c : ℕ)
+comb-map : (L M : ℕ → ℕ) → Linear L → Linear M → (R : ℕ → ℕ) → ((p : ℕ) → L (R p) ≡ M (2 ^ p)) → (c : ℕ)
     → c < 2 ^ 48 → L (combination R c) ≡ M c
 unfolding combination
 comb-map L M l m R e c h = linear-span L l R c 48 ∙ span-linear M m (λ p. L (R p)) e c 48 h
@@ -150,7 +150,7 @@ module _ (P : ℕ) (R : ℕ → ℕ) (h : ℕ) (f : Facts P R h) where
   pub masked : (y : ℕ) → bit_and y P < 2 ^ 48
   masked y = lt_of_le_of_lt (and_le_r y P) f.within
 
-  pub comb-lead : (c : ℕ) → c < 2 ^ 48 → bit_and (combination R c) P ≡ bit_and c P
+  comb-lead : (c : ℕ) → c < 2 ^ 48 → bit_and (combination R c) P ≡ bit_and c P
   comb-lead = comb-map (λ x. bit_and x P) (λ x. bit_and x P) (and-linear P) (and-linear P) R f.lead
 
   -- the row at a position is the combination of that position alone, if it is a pivot
@@ -164,7 +164,7 @@ module _ (P : ℕ) (R : ℕ → ℕ) (h : ℕ) (f : Facts P R h) where
   and-pivots : Linear (λ c. combination R (bit_and c P))
   and-pivots x y = ap (combination R) (and-linear P x y) ∙ comb-linear R (bit_and x P) (bit_and y P)
 
-  pub comb-pivots : (c : ℕ) → c < 2 ^ 48 → combination R c ≡ combination R (bit_and c P)
+  comb-pivots : (c : ℕ) → c < 2 ^ 48 → combination R c ≡ combination R (bit_and c P)
   comb-pivots = comb-is (λ c. combination R (bit_and c P)) and-pivots R (λ p. sym (comb-pow p))
 
   -- a row has its own pivot
@@ -191,7 +191,7 @@ module _ (P : ℕ) (R : ℕ → ℕ) (h : ℕ) (f : Facts P R h) where
 
   -- ---- membership
 
-  pub member_of : (y c : ℕ) → c < 2 ^ 48 → y ≡ bit_xor h (combination R c) → reduced P R y ≡ h
+  member_of : (y c : ℕ) → c < 2 ^ 48 → y ≡ bit_xor h (combination R c) → reduced P R y ≡ h
   member_of y c l e =
       ap (reduced P R) e ∙ red-linear h (combination R c) ∙ ap₂ bit_xor (red-keep h f.clean) (red-comb c l) ∙ xor_zero_r h
 
@@ -206,10 +206,10 @@ module _ (P : ℕ) (R : ℕ → ℕ) (h : ℕ) (f : Facts P R h) where
   -- ---- parities
 
   module _ (w l : ℕ) (is : (p : ℕ) → bit l p ≡ dot w (R p)) where
-    pub resp-comb : (c : ℕ) → c < 2 ^ 48 → dot w (combination R c) ≡ dot l c
+    resp-comb : (c : ℕ) → c < 2 ^ 48 → dot w (combination R c) ≡ dot l c
     resp-comb = comb-map (dot w) (dot l) (dot-linear w) (dot-linear l) R (λ p. sym (is p) ∙ sym (dot-pow l p))
 
-    pub resp-off : (p : ℕ) → bit P p ≡ 0 → bit l p ≡ 0
+    resp-off : (p : ℕ) → bit P p ≡ 0 → bit l p ≡ 0
     resp-off p z = is p ∙ ap (dot w) (f.idle p z) ∙ dot-none w
 
     pub resp-inside : bit_and l P ≡ l

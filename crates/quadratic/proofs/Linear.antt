@@ -9,7 +9,7 @@ use Rattle.quadratic.proofs.Dots.{dot-xor-r, dot-lt, and_xor}
 
 -- ---- sums
 
-pub swap : (a b c d : ℕ) → bit_xor (bit_xor a b) (bit_xor c d) ≡ bit_xor (bit_xor a c) (bit_xor b d)
+swap : (a b c d : ℕ) → bit_xor (bit_xor a b) (bit_xor c d) ≡ bit_xor (bit_xor a c) (bit_xor b d)
 swap a b c d =
     xor_assoc a b (bit_xor c d) ∙ ap (bit_xor a) (sym (xor_assoc b c d) ∙ ap (λ x. bit_xor x d) (xor_comm b c) ∙ xor_assoc c b d)
     ∙ sym (xor_assoc a c (bit_xor b d))
@@ -45,7 +45,7 @@ linear-span L l R c (suc n) = l (span R c n) (bit c n * R n)
     ∙ ap₂ bit_xor (linear-span L l R c n) (linear-pick L l (bit c n) (R n) (bit-lt c n))
 
 -- the single bits give the number
-pub span-pow : (c n : ℕ) → span (λ p. 2 ^ p) c n ≡ c % 2 ^ n
+span-pow : (c n : ℕ) → span (λ p. 2 ^ p) c n ≡ c % 2 ^ n
 span-pow c zero = sym (mod-one c)
 span-pow c (suc n) =
     ap (λ x. bit_xor x (bit c n * 2 ^ n)) (span-pow c n) ∙ xor_comm (c % 2 ^ n) (bit c n * 2 ^ n)

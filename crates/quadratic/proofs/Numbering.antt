@@ -31,7 +31,7 @@ module _ (n mask : ℕ) where
   spread-off c ne = cond-false (eqb (bit mask n) 1) _ _ (ne_eqb _ _ ne)
 
 -- masks that agree below n have the same places below n
-pub place-agree : (n x y a : ℕ) → ((q : ℕ) → q < n → bit x q ≡ bit y q) → place n x a ≡ place n y a
+place-agree : (n x y a : ℕ) → ((q : ℕ) → q < n → bit x q ≡ bit y q) → place n x a ≡ place n y a
 unfolding place
 place-agree zero x y a h = refl
 place-agree (suc n) x y a h =
@@ -39,7 +39,7 @@ place-agree (suc n) x y a h =
     ap₂ (λ b r. cond (b == 1) (cond (a == 1) (Some n) r) (place n x a)) (h n (omega arith)) (less (a - 1))
     ∙ ap (λ r. cond (bit y n == 1) (cond (a == 1) (Some n) (place n y (a - 1))) r) (less a)
 
-pub spread-agree : (n x y c : ℕ) → ((q : ℕ) → q < n → bit x q ≡ bit y q) → spread n x c ≡ spread n y c
+spread-agree : (n x y c : ℕ) → ((q : ℕ) → q < n → bit x q ≡ bit y q) → spread n x c ≡ spread n y c
 unfolding spread
 spread-agree zero x y c h = refl
 spread-agree (suc n) x y c h =
@@ -48,13 +48,13 @@ spread-agree (suc n) x y c h =
     ∙ ap (λ r. cond (bit y n == 1) ((c % 2) * 2 ^ n + spread n y (c / 2)) r) (less c)
 
 -- above the highest bit of a mask there are no places
-pub place-above : (d n x a : ℕ) → x < 2 ^ n → place (d + n) x a ≡ place n x a
+place-above : (d n x a : ℕ) → x < 2 ^ n → place (d + n) x a ≡ place n x a
 place-above zero n x a l = ap (λ k. place k x a) (zero-add n)
 place-above (suc d) n x a l =
     ap (λ k. place k x a) (suc-add d n)
     ∙ place-off (d + n) x a (λ on. let z = bit_past n x (d + n) l (omega arith) in absurd (omega arith)) ∙ place-above d n x a l
 
-pub spread-above : (d n x c : ℕ) → x < 2 ^ n → spread (d + n) x c ≡ spread n x c
+spread-above : (d n x c : ℕ) → x < 2 ^ n → spread (d + n) x c ≡ spread n x c
 spread-above zero n x c l = ap (λ k. spread k x c) (zero-add n)
 spread-above (suc d) n x c l =
     ap (λ k. spread k x c) (suc-add d n)
@@ -77,10 +77,10 @@ module _ {x p y : ℕ} (top : Highest x p y) where
   rest-of : (a : ℕ) → place p x a ≡ place 48 y a
   rest-of a = place-agree p x y a below ∙ sym (place-above (48 - p) p y a highest-small) ∙ ap (λ k. place k y a) (omega (arith, top.place))
 
-  pub highest-place : (a : ℕ) → a ≡ 1 → place 48 x a ≡ Some p
+  highest-place : (a : ℕ) → a ≡ 1 → place 48 x a ≡ Some p
   highest-place a e = up-to a ∙ place_here p x a top.on e
 
-  pub highest-passed : (a : ℕ) → (a ≡ 1 → ⊥) → place 48 x a ≡ place 48 y (a - 1)
+  highest-passed : (a : ℕ) → (a ≡ 1 → ⊥) → place 48 x a ≡ place 48 y (a - 1)
   highest-passed a ne = up-to a ∙ place-passed p x a top.on ne ∙ rest-of (a - 1)
 
   pub highest-spread : (c : ℕ) → spread 48 x c ≡ (c % 2) * 2 ^ p + spread 48 y (c / 2)
@@ -97,7 +97,7 @@ place-low x a = place-agree 48 (x % 2 ^ 48) x a (λ q l. bit-low 48 x q l)
 pub spread-low : (x c : ℕ) → spread 48 (x % 2 ^ 48) c ≡ spread 48 x c
 spread-low x c = spread-agree 48 (x % 2 ^ 48) x c (λ q l. bit-low 48 x q l)
 
-pub place-none : (x a : ℕ) → x ≡ 0 → place 48 x a ≡ None
+place-none : (x a : ℕ) → x ≡ 0 → place 48 x a ≡ None
 unfolding place
 place-none x a e = ap (λ m. place 48 m a) e ∙ place-above 48 0 0 a (lit< tt)
 

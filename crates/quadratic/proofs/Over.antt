@@ -84,7 +84,7 @@ module _ {R : Type 0} {o : Ops R} (laws : CommLaws o) where
         | no off ↦ over-off f mask n c off ∙ over-same f g mask n c h p ∙ sym (over-off g mask n c off)
       ]
 
-  pub over-plus : (f g : ℕ → R) (mask n c : ℕ) → over o (λ x. f x ⊕ g x) mask n c ≡ over o f mask n c ⊕ over o g mask n c
+  over-plus : (f g : ℕ → R) (mask n c : ℕ) → over o (λ x. f x ⊕ g x) mask n c ≡ over o f mask n c ⊕ over o g mask n c
   unfolding over
   over-plus f g mask zero c = refl
   over-plus f g mask (suc n) c =
@@ -109,7 +109,7 @@ module _ {R : Type 0} {o : Ops R} (laws : CommLaws o) where
       ]
 
   -- a shift of every string
-  pub over-shift : (f : ℕ → R) (k mask n c : ℕ) → over o (λ x. f (bit_xor x k)) mask n c ≡ over o f mask n (bit_xor c k)
+  over-shift : (f : ℕ → R) (k mask n c : ℕ) → over o (λ x. f (bit_xor x k)) mask n c ≡ over o f mask n (bit_xor c k)
   unfolding over
   over-shift f k mask zero c = refl
   over-shift f k mask (suc n) c =

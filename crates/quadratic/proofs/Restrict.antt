@@ -126,7 +126,7 @@ module _ (P : ℕ) (R : ℕ → ℕ) (h : ℕ) (f : Facts P R h) (l : ℕ) (part
       let d = parity-of y e in
       (cancel (reduced P R y) h (b * R p) (ap (λ x. bit_xor (reduced P R y) (x * R p)) (sym d) ∙ sym (red-new y) ∙ e), d)
 
-  pub law-new : (y : ℕ) → reduced P R y ≡ h → dot l y ≡ b → reduced P' R' y ≡ bit_xor h (b * R p)
+  law-new : (y : ℕ) → reduced P R y ≡ h → dot l y ≡ b → reduced P' R' y ≡ bit_xor h (b * R p)
   law-new y e d = red-new y ∙ ap₂ (λ x z. bit_xor x (z * R p)) e d
 
 -- ---- the same over spaces

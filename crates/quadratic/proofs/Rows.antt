@@ -10,13 +10,13 @@ use Rattle.quadratic.proofs.Algebra.{cross-rows, sum-parity}
 
 -- ---- one mask
 
-pub coef-four : (odd neg mask k : ℕ) → coef odd (bit_xor neg mask) k % 8 ≡ (coef odd neg k + 4 * bit mask k) % 8
+coef-four : (odd neg mask k : ℕ) → coef odd (bit_xor neg mask) k % 8 ≡ (coef odd neg k + 4 * bit mask k) % 8
 coef-four odd neg mask k =
     rw bit-xor (digit₂ (λ n m. (2 * bit odd k + 4 * ((n + m) % 2)) % 8 ≡ (2 * bit odd k + 4 * n + 4 * m) % 8)
     (omega arith) (omega arith) (omega arith) (omega arith)
     (bit neg k) (bit mask k) (bit-lt neg k) (bit-lt mask k))
 
-pub coef-two : (odd neg mask k : ℕ) → coef (bit_xor odd mask) (bit_xor neg (bit_and mask odd)) k % 8 ≡ (coef odd neg k + 2 * bit mask k) % 8
+coef-two : (odd neg mask k : ℕ) → coef (bit_xor odd mask) (bit_xor neg (bit_and mask odd)) k % 8 ≡ (coef odd neg k + 2 * bit mask k) % 8
 coef-two odd neg mask k =
     ap₂ (λ o n. (2 * o + 4 * n) % 8) (bit-xor odd mask k)
     (bit-xor neg (bit_and mask odd) k ∙ ap (λ a. (bit neg k + a) % 2) (bit-and mask odd k))
@@ -95,7 +95,7 @@ product-parity : (x p q : ℕ) → (x + 4 * (p * q)) % 8 ≡ (x + 4 * ((p % 2) *
 product-parity x p q = add8 x x (4 * (p * q)) (4 * ((p % 2) * (q % 2))) refl (four (p * q) ((p % 2) * (q % 2)) (par-mul p q))
 
 module _ (dim phase odd neg : ℕ) (t t₁ t₂ : List ℕ) (u v : ℕ) (x : RowsXor t t₁ u v) (y : RowsXor t₁ t₂ v u) where
-  pub link-both : (a b : ℕ) → link t₂ a b ≡ (link t a b + bit u a * bit v b + bit v a * bit u b) % 2
+  link-both : (a b : ℕ) → link t₂ a b ≡ (link t a b + bit u a * bit v b + bit v a * bit u b) % 2
   link-both a b = omega (arith, link-xor t t₁ u v x a b, link-xor t₁ t₂ v u y a b)
 
   pub square-both : ((a b : ℕ) → link t a b ≡ link t b a) → (a b : ℕ) → link t₂ a b ≡ link t₂ b a

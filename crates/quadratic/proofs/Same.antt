@@ -7,11 +7,11 @@ use native.Mathlib.Decide.{ℕ_discrete}
 use lib.Bits.{bit_and, bit_xor}
 use Rattle.quadratic.specs.Echelon.{row, combination, reduced}
 use Rattle.quadratic.specs.Phase.{phase, SamePhases}
-use Rattle.quadratic.specs.Strings.{Member, SameStrings}
+use Rattle.quadratic.specs.Strings.{Member}
 use Rattle.quadratic.specs.Value.{value_at}
 use Rattle.quadratic.specs.declared.phased.PhasedSpace.{PhasedSpace}
 use Rattle.quadratic.proofs.Laws.{facts, holds, member, coordinate, and-twice}
-use Rattle.quadratic.proofs.Distinct.{pivots-same, row_same, shift_same}
+use Rattle.quadratic.proofs.Distinct.{SameStrings, pivots-same, row_same, shift_same}
 use Rattle.quadratic.proofs.Unique.{same-form}
 use Rattle.quadratic.proofs.Phases.{phase-in, phase-out}
 
@@ -25,7 +25,7 @@ has-phase s y m e =
           let z : ◌≡◌ {A = ℕ} 0 1 = cc in absurd (omega arith)
     ]
 
-pub same-members : (s t : PhasedSpace) → SamePhases s t → (y : ℕ) → Member s.space y → Member t.space y
+same-members : (s t : PhasedSpace) → SamePhases s t → (y : ℕ) → Member s.space y → Member t.space y
 same-members s t h y m = has-phase t y (value_at s.form y) (sym (h y) ∙ phase-in s y m)
 
 pub same-strings : (s t : PhasedSpace) → SamePhases s t → SameStrings s.space t.space

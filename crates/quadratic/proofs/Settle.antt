@@ -27,7 +27,7 @@ module _ (s : AffineSpace) (i col : ℕ) (is : (p : ℕ) → bit col p ≡ bit (
   column-off z = is i ∙ ap (λ r. bit r i) (s.idle i z) ∙ bit-zero i
 
   -- the bit that is left at the position
-  pub left-bit : (y : ℕ) → bit (reduced s.pivots (row s.rows) y) i ≡ bit_xor (bit y i) (dot col y)
+  left-bit : (y : ℕ) → bit (reduced s.pivots (row s.rows) y) i ≡ bit_xor (bit y i) (dot col y)
   left-bit y =
       sym (pow-dot (reduced s.pivots (row s.rows) y) i)
       ∙ resp-reduced s.pivots (row s.rows) s.shift (facts s) (2 ^ i) col by-dot y
@@ -60,14 +60,6 @@ module _ (v v' : ℕ → ℕ) (P left i col β : ℕ) (law : (c : ℕ) → v' c 
 
   off : bit P i ≡ 0
   off = off-bit P left i (and_comm P left ∙ apart) on
-
-  M-i : bit M i ≡ 1
-  unfolding M
-  M-i = bit-linear i P left ∙ ap₂ bit_xor off on
-
-  M'-i : bit M' i ≡ 0
-  unfolding M'
-  M'-i = bit-linear i P (bit_xor left (2 ^ i)) ∙ ap₂ bit_xor off (bit-linear i left (2 ^ i) ∙ ap₂ bit_xor on (bit-pow i))
 
   M'-other : (k : ℕ) → k ≢ i → bit M' k ≡ bit M k
   unfolding M M'

@@ -21,11 +21,11 @@ ones-mono : (n a b : ℕ) → a < 2 ^ n → b < 2 ^ n → ((k : ℕ) → bit a k
 ones-mono n a b i j h = let l = sum-le (bit a) (bit b) n h in omega (arith, l, ones-under n a i, ones-under n b j)
 
 -- the shift is a string of the space
-pub shift-member : (s : AffineSpace) → Member s s.shift
+shift-member : (s : AffineSpace) → Member s s.shift
 shift-member s = (0, sym (ap (bit_xor s.shift) (comb-zero (row s.rows)) ∙ xor_zero_r s.shift))
 
 module _ (s t : AffineSpace) (to : (y : ℕ) → Member s y → Member t y) where
-  pub pivots-among : bit_and s.pivots t.pivots ≡ s.pivots
+  pivots-among : bit_and s.pivots t.pivots ≡ s.pivots
   pivots-among =
       by_bits (bit_and s.pivots t.pivots) s.pivots (λ p. bit-and s.pivots t.pivots p
       ∙ digit (λ b. bit s.pivots p ≡ b → b * bit t.pivots p ≡ b) (λ z. zero-mul (bit t.pivots p))

@@ -15,7 +15,7 @@ use Rattle.quadratic.proofs.Lowest.{undropped}
 use Rattle.quadratic.proofs.Over
 
 -- a part of a mask sees the row on the mask alone
-pub row-part : (row rest x : ℕ) → Over.Part rest x → dot (bit_and row rest) x ≡ dot row x
+row-part : (row rest x : ℕ) → Over.Part rest x → dot (bit_and row rest) x ≡ dot row x
 row-part row rest x p = sym (dot-and row x rest) ∙ ap (dot row) p
 
 -- adding in steps modulo 8

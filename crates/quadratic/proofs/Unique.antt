@@ -22,7 +22,7 @@ split o n o' n' a b c d h =
     (λ e. absurd (omega arith)) (λ e. omega arith) o o' a c e
 
 -- a row past the variables is empty
-pub past_row : (f : QuadraticForm) (a b : ℕ) → 48 ≤ a → link f.coupling a b ≡ 0
+past_row : (f : QuadraticForm) (a b : ℕ) → 48 ≤ a → link f.coupling a b ≡ 0
 past_row f a b l = f.square a b ∙ bit_past 48 (get_or f.coupling b 0) a (f.inside b) l
 
 module _ (f g : QuadraticForm) (h : (c : ℕ) → c < 2 ^ 48 → value_at f c ≡ value_at g c) where

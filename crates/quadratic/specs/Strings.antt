@@ -37,10 +37,6 @@ pub record Moved (s s' : AffineSpace) (d : ℕ) : Type 0 where
   pub back : (y : ℕ) → Member s' y → Member s (bit_xor y d)
   pub moved : (y : ℕ) → Member s (bit_xor y d) → Member s' y
 
--- the two spaces have the same strings
-abbrev pub SameStrings : AffineSpace → AffineSpace → Type 0
-SameStrings s t = ((y : ℕ) → Member s y → Member t y) × ((y : ℕ) → Member t y → Member s y)
-
 -- the strings of s' are those of s, and those with f added
 pub record Doubled (s s' : AffineSpace) (f : ℕ) : Type 0 where
   pub either : (y : ℕ) → Member s' y → Member s y ⊎ Member s (bit_xor y f)

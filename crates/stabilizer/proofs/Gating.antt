@@ -56,7 +56,7 @@ module _ (n : ℕ) (M N : Monomial) (op : Opposite n M N) (s s' : PhasedSpace) (
       subst (λ x. x < 2 ^ n) (op.back y) (op.inside (M.move y) (phases-below s n p h (M.move y) i f)))
 
 -- with the dimension and the weight as they were, a turned phase is a turned amplitude
-pub amplitude-turned : (s s' : StabilizerState) → s'.loss ≡ s.loss → ones s'.body.space.pivots ≡ ones s.body.space.pivots
+amplitude-turned : (s s' : StabilizerState) → s'.loss ≡ s.loss → ones s'.body.space.pivots ≡ ones s.body.space.pivots
     → (k : ℕ) (a : Option ℕ) → amplitude_of s' (turn k a) ≡ rotated k (amplitude_of s a)
 amplitude-turned s s' l d k (Some m) = ap₂ (λ p i. (1, neg_ℤ (pos p), i)) (ap₂ ◌+◌ l d) (once m k)
   where

@@ -41,7 +41,7 @@ scale s = 4144 - depth s
 
 -- ---- entries by phases
 
-pub entry-is : (s : StabilizerState) (y : ℕ) → entry s y ≡ rpow omegas (scale s) ⊗ term (phase s.body y)
+entry-is : (s : StabilizerState) (y : ℕ) → entry s y ≡ rpow omegas (scale s) ⊗ term (phase s.body y)
 entry-is s y = go (phase s.body y)
   where
     go : (a : Option ℕ) → scaled 4144 (amplitude_of s a) ≡ rpow omegas (scale s) ⊗ term a
@@ -57,7 +57,7 @@ cancel : (j : ℕ) (x y : Omega) → rpow omegas j ⊗ x ≡ rpow omegas j ⊗ y
 cancel = RingFacts.rpow-same omega-laws double-same
 
 module _ (m : PauliMasks) (P : Pauli) (s : StabilizerState) (h : SignedMasks P m) where
-  pub doubled-is : (y : ℕ) → doubled P (entry s) y ≡ rpow omegas (scale s) ⊗ sum_at m s.body y
+  doubled-is : (y : ℕ) → doubled P (entry s) y ≡ rpow omegas (scale s) ⊗ sum_at m s.body y
   doubled-is y =
       let f = flips P.letters in
       let r = rpow omegas (scale s) in

@@ -85,10 +85,10 @@ module _ (t s : StabilizerState) where
         let (a, b) = less_both (phase s.body y) (phase t.body y) (value_at m.form y) (sym (shared y) ∙ phase-in m y i) in
         (has-phase s.body y a.0 a.1, has-phase t.body y b.0 b.1)
 
-    pub below-s : ones m.space.pivots ≤ ones s.body.space.pivots
+    below-s : ones m.space.pivots ≤ ones s.body.space.pivots
     below-s = dimension-le m.space s.body.space (λ y i. (in_both y i).0)
 
-    pub below-t : ones m.space.pivots ≤ ones t.body.space.pivots
+    below-t : ones m.space.pivots ≤ ones t.body.space.pivots
     below-t = dimension-le m.space t.body.space (λ y i. (in_both y i).1)
 
     under : Under m.space s.qubits
@@ -102,7 +102,7 @@ module _ (t s : StabilizerState) where
       (λ m shared. sym (sum-strings omega-laws.comm m s.qubits (under m shared)))
 
   -- the inner product is a power of √2 times the exponential sum
-  pub inner-is : (both : Intersection) → t.qubits ≡ s.qubits → Intersects both t s
+  inner-is : (both : Intersection) → t.qubits ≡ s.qubits → Intersects both t s
       → inner t.qubits (entry t) (entry s) ≡ rpow omegas common ⊗ total omegas both
   inner-is both q shared =
       ap (λ n. inner n (entry t) (entry s)) q
@@ -172,7 +172,7 @@ module _ (t s : StabilizerState) where
         }
 
     -- the exponential sum with the powers of both states is the overlap
-    pub overlap-is : Roomy both t s → Bounded both sum → IsOverlap t s (lowered (triple_of sum) (depth t + depth s))
+    overlap-is : Roomy both t s → Bounded both sum → IsOverlap t s (lowered (triple_of sum) (depth t + depth s))
     overlap-is roomy b = go (scalar-kind sum)
       where
         go : Kind (triple_of sum) → IsOverlap t s (lowered (triple_of sum) (depth t + depth s))
@@ -187,13 +187,13 @@ module _ (t s : StabilizerState) where
     floor : Floor 8288 x
     floor o = let (a, e, l) = is.range o in (8288 - a, ap (◌+ℤ◌ (pos 8288)) e ∙ below 8288 a (omega (arith, l)))
 
-    pub overlap-vanishes : x.0 ≡ 0 → Orthogonal t s
+    overlap-vanishes : x.0 ≡ 0 → Orthogonal t s
     overlap-vanishes z = sym is.exact ∙ scaled-zero 8288 x z
 
-    pub overlap-orthogonal : Orthogonal t s → x.0 ≡ 0
+    overlap-orthogonal : Orthogonal t s → x.0 ≡ 0
     overlap-orthogonal o = scaled-nil 8288 x is.kind floor (is.exact ∙ o)
 
-  pub sizes-same : 0 ≡ sizes_number t s → t.qubits ≡ s.qubits
+  sizes-same : 0 ≡ sizes_number t s → t.qubits ≡ s.qubits
   sizes-same e =
       elim (ℕ_discrete t.qubits s.qubits) [
         | yes q ↦ q

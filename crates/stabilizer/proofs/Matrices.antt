@@ -105,7 +105,7 @@ flip-lt PX = omega arith
 flip-lt PY = omega arith
 flip-lt PZ = omega arith
 
-pub flips-lt : (ls : List Letter) → flips ls < 2 ^ length ls
+flips-lt : (ls : List Letter) → flips ls < 2 ^ length ls
 flips-lt [] = pow_pos 0
 flips-lt (l ∷ ls) =
     let below = flips-lt ls in

@@ -1,15 +1,14 @@
 -- How Pauli texts are read: their lengths, and what one letter more does to the masks.
-use Rattle.std.proofs.Common.{◌≡◌, ℕ, suc, ◌+◌, ◌*◌, ◌/◌, ◌%◌, ◌^◌, ◌<◌, ◌≤◌, Bool, true, false, cond, eqb, List, [], ◌∷◌, ◌++◌, length, get_or, drop, Some, None, Ok, Err, Option, sym, refl, ap, ◌∙◌, subst, ap₂, lt_of_le_of_lt, mod-lt, mod-eq_of_lt, one-mul, pow-suc, zero-mul, arith, pow_pos}
+use Rattle.std.proofs.Common.{◌≡◌, ℕ, suc, ◌+◌, ◌*◌, ◌/◌, ◌%◌, ◌^◌, ◌<◌, ◌≤◌, Bool, true, false, cond, eqb, List, [], ◌∷◌, ◌++◌, length, Some, None, Ok, Err, Option, sym, refl, ap, ◌∙◌, subst, ap₂, lt_of_le_of_lt, mod-lt, mod-eq_of_lt, one-mul, pow-suc, zero-mul, arith, pow_pos}
 use lib.Bits.{bit_and, and_block, and_mod, and_le_l, and_lt, and_comm, and_mask, and_zero_l}
 use lib.Count.{ones, ones_cat}
 use lib.Pow.{split}
-use Rattle.std.proofs.lemmas.Bool.{eqb-true, eq-eqb, cond-true}
+use Rattle.std.proofs.lemmas.Bool.{eqb-true}
 use Rattle.std.proofs.lemmas.List.{append_assoc}
-use Rattle.cyclotomic.specs.Refusals.{number_of}
 use Rattle.cyclotomic.specs.declared.refusal.Refusal.{Refusal}
 use Rattle.quadratic.specs.Bits.{bit, dot}
 use Rattle.quadratic.proofs.Bitlaws.{digit}
-use Rattle.stabilizer.specs.Masks.{sign, WithLetter, Added, MasksOf, MaskedLetters, SignedMasks, Masked, quarters_of}
+use Rattle.stabilizer.specs.Masks.{sign, WithLetter, Added, MasksOf, MaskedLetters, SignedMasks, Masked}
 use Rattle.stabilizer.specs.Paulis.{Letter, I, X, Y, Z, Pauli, flip, turn, turns, letter_of, letters_of, sign_of, joined, signed, pauli_of}
 use Rattle.stabilizer.specs.Paulis.{read_number, text_number}
 use Rattle.stabilizer.specs.declared.pauli.PauliMasks.{PauliMasks}
@@ -17,7 +16,7 @@ use Rattle.stabilizer.specs.declared.pauli.PauliMasks.{PauliMasks}
 -- ---- lengths
 
 -- there is a letter for every byte
-pub letters-length : (text : List ℕ) (ls : List Letter) → letters_of text ≡ Some ls → length ls ≡ length text
+letters-length : (text : List ℕ) (ls : List Letter) → letters_of text ≡ Some ls → length ls ≡ length text
 letters-length [] ls e = let z : [] ≡ ls = cc in ap length (sym z)
 letters-length (b ∷ text) ls e = go (letter_of b) (letters_of text) (letters-length text) e
   where
@@ -52,7 +51,7 @@ text-length n text e = go (eqb (length text) (n + 1)) refl e
     go false h e = absurd (omega arith)
 
 -- a byte that is no letter spoils every text that ends with it and what follows
-pub letters-none : (front back : List ℕ) → letters_of back ≡ None → letters_of (front ++ back) ≡ None
+letters-none : (front back : List ℕ) → letters_of back ≡ None → letters_of (front ++ back) ≡ None
 letters-none [] back e = e
 letters-none (b ∷ front) back e = ap (joined (letter_of b)) (letters-none front back e) ∙ go (letter_of b)
   where
@@ -198,60 +197,6 @@ pub below-place : (m : PauliMasks) (text : List ℕ) → MaskedLetters (Ok m) (l
 below-place m text h =
     let (ls, k, n) = masked m text h in
     (subst (λ i. m.flips < 2 ^ i) n k.low, subst (λ i. m.signs < 2 ^ i) n k.small, subst (λ i. m.quarters ≤ i) n k.few)
-
--- ---- a text by its first byte and the others
-
-turn_signed : (a t q k d : ℕ) → 2 * a ≡ k → t % 8 ≡ (2 * q + 4 * d) % 8 → (4 * a + t) % 8 ≡ (2 * (q + k) + 4 * d) % 8
-turn_signed a t q k d e h = add (4 * a) (2 * k) t (2 * q + 4 * d) (ap (λ x. x % 8) (omega arith)) h ∙ ap (λ x. x % 8) (omega arith)
-  where
-    add : (a b c d : ℕ) → a % 8 ≡ b % 8 → c % 8 ≡ d % 8 → (a + c) % 8 ≡ (b + d) % 8
-    add a b c d p q = omega arith
-
-text-parts : (text : List ℕ) → 0 < length text → pauli_of text ≡ signed (sign_of (get_or text 0 0)) (letters_of (drop 1 text))
-text-parts [] h = absurd (omega arith)
-text-parts (b ∷ text) h = refl
-
-module _ (n : ℕ) (text : List ℕ) (e : length text ≡ n + 1) where
-  some : 0 < length text
-  some = omega arith
-
-  long : eqb (length text) (n + 1) ≡ true
-  long = eq-eqb (length text) (n + 1) e
-
-  number_is : (o : Option Pauli) → pauli_of text ≡ o → text_number n text ≡ read_number o
-  number_is o q = cond-true _ (read_number (pauli_of text)) 11 long ∙ ap read_number q
-
-  pub letters-bad : (r : Refusal) → MaskedLetters (Err r) (letters_of (drop 1 text)) → number_of r ≡ text_number n text
-  letters-bad r h = go (letters_of (drop 1 text)) refl h
-    where
-      none : (o : Option ℕ) → signed o None ≡ None
-      none (Some a) = refl
-      none None = refl
-
-      go : (p : Option (List Letter)) → letters_of (drop 1 text) ≡ p → MaskedLetters (Err r) p → number_of r ≡ text_number n text
-      go (Some ls) q h = absurd h
-      go None q h = h ∙ sym (number_is None (text-parts text some ∙ ap (signed _) q ∙ none _))
-
-  -- the masks of the letters with the quarters of the sign are those of the text
-  pub text-good : (m : PauliMasks) (t : ℕ) → quarters_of (sign_of (get_or text 0 0)) ≡ Some t
-      → MaskedLetters (Ok m) (letters_of (drop 1 text))
-      → (0 ≡ text_number n text) × Masked (Ok (record { flips = m.flips; signs = m.signs; quarters = m.quarters + t })) (pauli_of text)
-  text-good m t q h = go (sign_of (get_or text 0 0)) (letters_of (drop 1 text)) (letters-length (drop 1 text)) (text-parts text some) q h
-    where
-      go : (o : Option ℕ) (p : Option (List Letter)) → ((ks : List Letter) → p ≡ Some ks → length ks ≡ length (drop 1 text))
-          → pauli_of text ≡ signed o p → quarters_of o ≡ Some t → MaskedLetters (Ok m) p
-          → (0 ≡ text_number n text) × Masked (Ok (record { flips = m.flips; signs = m.signs; quarters = m.quarters + t })) (pauli_of text)
-      go (Some a) (Some ls) l s q h =
-          let two : 2 * a ≡ t = cc in (
-            sym (number_is _ s),
-            rw s (record {
-              flips = h.flips;
-              turns = λ x. turn_signed a (turns ls x) m.quarters t (dot m.signs x) two (h.turns x);
-              low = h.low;
-            }),
-          )
-      go (Some a) None l s q h = absurd h
-      go None p l s q h = let z : ◌≡◌ {A = ℕ} 0 1 = cc in absurd (omega arith)
 
 -- ---- the Pauli behind a text that is not refused
 

@@ -1,6 +1,4 @@
-use Rattle.std.proofs.Common.{◌≡◌, sym, ap, ◌∙◌, inl, inr, arith}
-use Rattle.cyclotomic.specs.Ring.{power}
-use Rattle.cyclotomic.specs.CommFacts.{one_times}
+use Rattle.std.proofs.Common.{ap, ◌∙◌, inl, inr}
 use Rattle.cyclotomic.proofs.Powers.{step}
 use Rattle.cyclotomic.proofs.embedding.power.Goals as goal
 use Rattle.cyclotomic.proofs.embedding.power.Goals.{then-left-eq1, else-left-eq1}
