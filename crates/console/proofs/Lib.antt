@@ -1,3 +1,6 @@
 mod Before
 mod Kept
+mod Known
 mod Running
+mod Spelled
+mod Splitting

@@ -1,11 +1,13 @@
 -- From what a call on a state did to what a command did to the session.
-use Rattle.std.proofs.Common.{◌≡◌, ℕ, ◌<◌, ◌≤◌, List, length, get_or, Ok, Err, Result, IfOk, OnOk, inr, refl, sym, ap, ◌∙◌, subst}
+use Rattle.std.proofs.Common.{◌≡◌, ℕ, ◌<◌, ◌≤◌, List, [], length, get_or, Ok, Err, Result, IfOk, OnOk, inr, refl, sym, ap, ◌∙◌, subst}
 use Rattle.host.specs.Answers.{entry_number, Answered}
 use Rattle.stabilizer.specs.declared.state.StabilizerState.{StabilizerState}
 use Rattle.console.specs.Commands.{Enters}
 use Rattle.console.specs.Lines.{Does}
 use Rattle.console.specs.Sessions.{state_of, with_state, Looks, Ran, RanOn}
-use Rattle.console.specs.Words.{Names}
+use Rattle.console.specs.Parts.{Spells}
+use Rattle.console.specs.Spelling.{parts_of}
+use Rattle.console.specs.Words.{words_in}
 use Rattle.console.specs.declared.answer.Answer.{Answer}
 use Rattle.console.specs.declared.answer.Answer.TheVariants.{Number}
 use Rattle.console.specs.declared.command.Command.{Command}
@@ -34,11 +36,11 @@ enters t s b b' n e granted refused rest = record {
 
 -- a command that was read is what the line asked for
 pub does : {E : Type 0} (words : List ℕ) (r : Result Answer E) (command : Command) (o o' : Operands) (x x' : Session)
-    → Names words command → IfOk r (λ a. Ran command o x a o' x') → (Looks command → x' ≡ x)
+    → Spells (parts_of command o) (words_in words) [] → IfOk r (λ a. Ran command o x a o' x') → (Looks command → x' ≡ x)
     → IfOk r (λ a. Does words x a o' x')
-does words (Ok a) command o o' x x' named ran looks =
-    inr (record { command = command; named = named; operands = o; ran = ran; looks = looks })
-does words (Err e) command o o' x x' named ran looks = ran
+does words (Ok a) command o o' x x' spelled ran looks =
+    inr (record { command = command; operands = o; spelled = spelled; ran = ran; looks = looks })
+does words (Err e) command o o' x x' spelled ran looks = ran
 
 -- what holds on success, by what it leads to
 pub on-ok : {A E P Q : Type 0} (r : Result A E) → OnOk r P → (P → Q) → OnOk r Q

@@ -2,6 +2,8 @@ pub mod Answers
 pub mod Commands
 pub mod Lending
 pub mod Lines
+pub mod Parts
 pub mod Replies
 pub mod Sessions
+pub mod Spelling
 pub mod Words

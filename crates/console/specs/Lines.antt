@@ -6,7 +6,9 @@ use Rattle.listing.specs.Written.{ended}
 use Rattle.console.specs.Answers.{Denies}
 use Rattle.console.specs.Replies.{reply_text}
 use Rattle.console.specs.Sessions.{Looks, Ran}
-use Rattle.console.specs.Words.{Names}
+use Rattle.console.specs.Parts.{Spells}
+use Rattle.console.specs.Spelling.{parts_of, TellsUnknown}
+use Rattle.console.specs.Words.{words_in}
 use Rattle.console.specs.declared.answer.Answer.{Answer}
 use Rattle.console.specs.declared.answer.Answer.TheVariants.{Unreadable}
 use Rattle.console.specs.declared.command.Command.{Command}
@@ -23,23 +25,24 @@ abbrev pub IsSilent : List ℕ → Type 0
 IsSilent [] = Unit {0}
 IsSilent (c ∷ words) = c ≡ 35
 
--- the words cannot be read
-pub record Unread (x : Session) (a : Answer) (x' : Session) : Type 0 where
+-- the line cannot be read
+pub record Unread (line : List ℕ) (x : Session) (a : Answer) (x' : Session) : Type 0 where
   pub problem : Problem
+  pub unknown : TellsUnknown problem (words_in line)
   pub answer : a ≡ Unreadable problem
   pub kept : x' ≡ x
 
--- the first of the words names a command, which was done
-pub record Obeyed (words : List ℕ) (x : Session) (a : Answer) (o' : Operands) (x' : Session) : Type 0 where
+-- the words spell a command with operands, which was done
+pub record Obeyed (line : List ℕ) (x : Session) (a : Answer) (o' : Operands) (x' : Session) : Type 0 where
   pub command : Command
-  pub named : Names words command
   pub operands : Operands
+  pub spelled : Spells (parts_of command operands) (words_in line) []
   pub ran : Ran command operands x a o' x'
   pub looks : Looks command → x' ≡ x
 
 -- the one or the other
 abbrev pub Does : List ℕ → Session → Answer → Operands → Session → Type 0
-Does words x a o' x' = Unread x a x' ⊎ Obeyed words x a o' x'
+Does words x a o' x' = Unread words x a x' ⊎ Obeyed words x a o' x'
 
 -- a line is answered: the text of the answer and a line feed are written, and the session is left as the answer says
 pub record Replied (words : List ℕ) (x x' : Session) (old new : Option (List ℕ)) : Type 0 where

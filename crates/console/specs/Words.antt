@@ -1,47 +1,25 @@
--- The first word of a line, and the command that it names.
-use Rattle.std.specs.List.{before_first}
-use Rattle.std.specs.Prelude.{◌≡◌, ℕ, cond, List, [], ◌∷◌, codes, ◌==◌}
-use Rattle.console.specs.declared.command.Command.{Command}
-use Rattle.console.specs.declared.command.Command.TheVariants.{Help, OnState, Split, Overlap, Same, Intersect}
-use Rattle.console.specs.declared.command.Command.TheVariants.{Sum, Coordinates, Total, Embed, Check, View, Host}
-use Rattle.console.specs.declared.command.StateCommand.TheVariants.{Open, Read, Take, Write, WriteInto, Fields, Amplitude, Gate, Project}
+-- The words of a line.
+use Rattle.std.specs.Prelude.{◌≡◌, ◌≢◌, ℕ, List, [], ◌∷◌, length, filter, Ok, Result, nat_lt, ◌==◌, slice_index}
+use Rattle.std.specs.Borrow.{Bor}
+use Rattle.std.specs.List.{slice_split}
 
--- a line without the blanks at its start
-abbrev pub trimmed : List ℕ → List ℕ
-trimmed [] = []
-trimmed (c ∷ line) = cond (c == 32) (trimmed line) (c ∷ line)
+-- the words of a line: what stands between blanks
+unfoldable pub words_in : List ℕ → List (List ℕ)
+words_in line = filter (λ w. nat_lt 0 (length w)) (slice_split (λ c. c == 32) line)
 
--- what stands before the first byte that is `end`
-abbrev pub before : ℕ → List ℕ → List ℕ
-before end line = before_first (λ c. c == end) line
+-- the first of ys stand in R to xs, one by one, and `rest` stands behind them
+abbrev pub InTurn : {A B : Type 0} → (A → B → Type 0) → List A → List B → List B → Type 0
+InTurn R [] ys rest = ys ≡ rest
+InTurn R (x ∷ xs) [] rest = ⊥
+InTurn R (x ∷ xs) (y ∷ ys) rest = R x y × InTurn R xs ys rest
 
-abbrev pub first_word : List ℕ → List ℕ
-first_word line = before 32 (trimmed line)
+-- the first word has P, and `rest` stands behind it
+pub record Next (P : Bor (List ℕ) → Type 0) (words rest : List (List ℕ)) : Type 0 where
+  pub word : Bor (List ℕ)
+  pub first : words ≡ word.now ∷ rest
+  pub holds : P word
 
--- the first word of a command
-abbrev pub verb_text : Command → List ℕ
-verb_text Help = codes "help"
-verb_text (OnState name (Open n)) = codes "open"
-verb_text (OnState name Read) = codes "read"
-verb_text (OnState name (Take i)) = codes "take"
-verb_text (OnState name Write) = codes "write"
-verb_text (OnState name WriteInto) = codes "write"
-verb_text (OnState name Fields) = codes "fields"
-verb_text (OnState name (Amplitude y)) = codes "amplitude"
-verb_text (OnState name (Gate kind j l)) = codes "gate"
-verb_text (OnState name Project) = codes "project"
-verb_text (Split place) = codes "split"
-verb_text Overlap = codes "overlap"
-verb_text Same = codes "same"
-verb_text Intersect = codes "intersect"
-verb_text Sum = codes "sum"
-verb_text Coordinates = codes "coordinates"
-verb_text (Total ring times) = codes "total"
-verb_text (Embed ring x) = codes "embed"
-verb_text Check = codes "check"
-verb_text (View i) = codes "view"
-verb_text Host = codes "host"
-
--- the first word of a line names a command
-abbrev pub Names : List ℕ → Command → Type 0
-Names line command = first_word line ≡ verb_text command
+-- the word has no plus sign in front, and is read as n
+pub record Reads {N E : Type 0} (gives : List ℕ → Result N E → Type 0) (n : N) (w : List ℕ) : Type 0 where
+  pub plain : slice_index w 0 ≢ 43
+  pub read : gives w (Ok n)

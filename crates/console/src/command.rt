@@ -1,5 +1,8 @@
-ghost use Rattle.std.specs.Prelude.{◌≡◌, IfOk, codes};
-ghost use Rattle.console.specs.Words.{verb_text, Names};
+ghost use Rattle.std.specs.Prelude.{◌≡◌, [], ◌∷◌, IfOk, IfErr, codes};
+ghost use Rattle.console.specs.Spelling.{left, parts_of, ring_word, state_word, TellsUnknown};
+ghost use Rattle.console.specs.Words.{words_in};
+ghost use Rattle.console.specs.Parts.{Spells};
+ghost use Rattle.console.specs.declared.command.Operands.{Operands};
 
 use crate::calls;
 use crate::problem::Problem;
@@ -17,6 +20,8 @@ pub enum Name {
 
 impl TryFrom<&[u8]> for Name {
     type Error = Problem;
+
+    ghost try_from_gives = { λ word r. IfOk r (λ name. word.now ≡ state_word name) };
 
     fn try_from(word: &[u8]) -> Result<Name, Problem> {
         match word {
@@ -36,6 +41,8 @@ pub enum RingName {
 
 impl TryFrom<&[u8]> for RingName {
     type Error = Problem;
+
+    ghost try_from_gives = { λ word r. IfOk r (λ ring. word.now ≡ ring_word ring) };
 
     fn try_from(word: &[u8]) -> Result<RingName, Problem> {
         match word {
@@ -102,7 +109,8 @@ impl Operands {
 
 // The command of a line; its bytes go into the operands.
 pub(crate) fn parse(line: &[u8], operands: &mut Operands) -> Result<Command, Problem>
-    ensures { IfOk result (Names line.now) }
+    ensures spelled { IfOk result (λ c. Spells (parts_of c operands.new) (words_in line.now) []) }
+    ensures unknown { IfErr result (λ p. TellsUnknown p (words_in line.now)) }
 {
     let mut words = Words::new(line);
     let verb = words.word()?;
@@ -118,7 +126,8 @@ fn parse_rest(
     words: &mut Words<'_>,
     operands: &mut Operands,
 ) -> Result<Command, Problem>
-    ensures { IfOk result (λ c. verb.now ≡ verb_text c) }
+    ensures spelled { IfOk result (λ c. Spells (parts_of c operands.new) (verb.now ∷ left words.old) (left words.new)) }
+    ensures unknown { IfErr result (λ p. TellsUnknown p (verb.now ∷ left words.old)) }
 {
     match verb {
         b"help" => Ok(Command::Help),
@@ -152,7 +161,8 @@ fn parse_on_state(
     words: &mut Words<'_>,
     operands: &mut Operands,
 ) -> Result<Command, Problem>
-    ensures { IfOk result (λ c. verb.now ≡ verb_text c) }
+    ensures spelled { IfOk result (λ c. Spells (parts_of c operands.new) (verb.now ∷ left words.old) (left words.new)) }
+    ensures unknown { IfErr result (λ p. TellsUnknown p (verb.now ∷ left words.old)) }
 {
     match verb {
         b"open" => {
@@ -184,7 +194,7 @@ fn parse_on_state(
 }
 
 fn parse_gate(words: &mut Words<'_>) -> Result<Command, Problem>
-    ensures { IfOk result (λ c. codes "gate" ≡ verb_text c) }
+    ensures { (o : Operands) → IfOk result (λ c. Spells (parts_of c o) (codes "gate" ∷ left words.old) (left words.new)) }
 {
     let name = words.named()?;
     let kind = words.number()?;
@@ -199,7 +209,7 @@ fn parse_gate(words: &mut Words<'_>) -> Result<Command, Problem>
 }
 
 fn parse_take(words: &mut Words<'_>, operands: &mut Operands) -> Result<Command, Problem>
-    ensures { IfOk result (λ c. codes "take" ≡ verb_text c) }
+    ensures { IfOk result (λ c. Spells (parts_of c operands.new) (codes "take" ∷ left words.old) (left words.new)) }
 {
     let name = words.named()?;
     words.bytes(&mut operands.first)?;
@@ -208,7 +218,7 @@ fn parse_take(words: &mut Words<'_>, operands: &mut Operands) -> Result<Command,
 }
 
 fn parse_write(words: &mut Words<'_>, operands: &mut Operands) -> Result<Command, Problem>
-    ensures { IfOk result (λ c. codes "write" ≡ verb_text c) }
+    ensures { IfOk result (λ c. Spells (parts_of c operands.new) (codes "write" ∷ left words.old) (left words.new)) }
 {
     let name = words.named()?;
     if words.is_empty() {
@@ -224,7 +234,8 @@ fn parse_bytes(
     words: &mut Words<'_>,
     operands: &mut Operands,
 ) -> Result<Command, Problem>
-    ensures { IfOk result (λ c. verb.now ≡ verb_text c) }
+    ensures spelled { IfOk result (λ c. Spells (parts_of c operands.new) (verb.now ∷ left words.old) (left words.new)) }
+    ensures unknown { IfErr result (λ p. TellsUnknown p (verb.now ∷ left words.old)) }
 {
     match verb {
         b"check" => {

@@ -1,5 +1,8 @@
-ghost use Rattle.std.specs.Prelude.{◌≡◌, ◌≤◌, length, take, IfOk};
-ghost use Rattle.console.specs.Words.{trimmed as trimmed_of, before};
+ghost use Rattle.std.specs.Prelude.{◌≡◌, ◌≢◌, ◌≤◌, [], ◌∷◌, ◌==◌, length, IfOk, OnOk, OnErr, Ok, slice_index};
+ghost use Rattle.std.specs.List.{position_or_len};
+ghost use Rattle.console.specs.Parts.{IsHex, Spells, scalar_parts};
+ghost use Rattle.console.specs.Words.{words_in, Next, Reads};
+ghost use Rattle.cyclotomic.specs.Scalars.{triple_of};
 
 use crate::problem::Problem;
 use cyclotomic::scalar::Scalar;
@@ -12,11 +15,12 @@ use std::str::FromStr;
 #[derive(Drop)]
 pub struct Words<'a> {
     rest: &'a [u8],
+    ghost at_word: { slice_index rest.now 0 ≢ 32 },
 }
 
 impl<'a> Words<'a> {
     pub(crate) fn new(line: &'a [u8]) -> Words<'a>
-        ensures { result.rest.now ≡ trimmed_of line.now }
+        ensures { words_in result.rest.now ≡ words_in line.now }
     {
         Words {
             rest: trimmed(line),
@@ -30,7 +34,8 @@ impl<'a> Words<'a> {
 
     // The next word.
     pub(crate) fn word(&mut self) -> Result<&'a [u8], Problem>
-        ensures { IfOk result (λ w. w.now ≡ before 32 self.old.rest.now) }
+        ensures first { IfOk result (λ w. words_in self.old.rest.now ≡ w.now ∷ words_in self.new.rest.now) }
+        ensures none { OnErr result (words_in self.old.rest.now ≡ []) }
     {
         if self.rest.is_empty() {
             return Err(Problem::MissingWord);
@@ -41,17 +46,26 @@ impl<'a> Words<'a> {
     }
 
     // The next word as a number in base ten.
-    pub(crate) fn number<N: FromStr<Err = ParseIntError>>(&mut self) -> Result<N, Problem> {
+    pub(crate) fn number<N: FromStr<Err = ParseIntError>>(&mut self) -> Result<N, Problem>
+        ensures { IfOk result (λ n. Next (λ w. Reads N.from_str_gives n w.now)
+            (words_in self.old.rest.now) (words_in self.new.rest.now)) }
+    {
         number_of(self.word()?)
     }
 
     // The next word as the name of a state or of a ring.
-    pub(crate) fn named<N: TryFrom<&'a [u8], Error = Problem>>(&mut self) -> Result<N, Problem> {
+    pub(crate) fn named<N: TryFrom<&'a [u8], Error = Problem>>(&mut self) -> Result<N, Problem>
+        ensures { IfOk result (λ n. Next (λ w. N.try_from_gives w (Ok n))
+            (words_in self.old.rest.now) (words_in self.new.rest.now)) }
+    {
         N::try_from(self.word()?)
     }
 
     // The next three words as a scalar.
-    pub(crate) fn scalar(&mut self) -> Result<Scalar, Problem> {
+    pub(crate) fn scalar(&mut self) -> Result<Scalar, Problem>
+        ensures { IfOk result (λ x. Spells (scalar_parts (triple_of x))
+            (words_in self.old.rest.now) (words_in self.new.rest.now)) }
+    {
         let epsilon = self.number()?;
         let power = self.number()?;
         let turn = self.number()?;
@@ -59,14 +73,19 @@ impl<'a> Words<'a> {
     }
 
     // Puts the bytes that the next word stands for into `out`, in place of what it held.
-    pub(crate) fn bytes(&mut self, out: &mut Vec<u8>) -> Result<(), Problem> {
+    pub(crate) fn bytes(&mut self, out: &mut Vec<u8>) -> Result<(), Problem>
+        ensures { OnOk result (Next (λ w. IsHex out.new.items w.now)
+            (words_in self.old.rest.now) (words_in self.new.rest.now)) }
+    {
         let digits = Hex::new(self.word()?).ok_or(Problem::NoPairs)?;
         digits.decode(out)?;
         Ok(())
     }
 
     // Refuses a word that is left over.
-    pub(crate) fn end(&self) -> Result<(), Problem> {
+    pub(crate) fn end(&self) -> Result<(), Problem>
+        ensures { OnOk result (words_in self.now.rest.now ≡ []) }
+    {
         if self.rest.is_empty() {
             Ok(())
         } else {
@@ -77,7 +96,8 @@ impl<'a> Words<'a> {
 
 // The line without the blanks at its start.
 fn trimmed(line: &[u8]) -> &[u8]
-    ensures { result.now ≡ trimmed_of line.now }
+    ensures words { words_in result.now ≡ words_in line.now }
+    ensures at_word { slice_index result.now 0 ≢ 32 }
 {
     let mut rest = line;
     while let [b' ', after @ ..] = rest {
@@ -89,7 +109,7 @@ fn trimmed(line: &[u8]) -> &[u8]
 // How many bytes stand before the first one that is `end`.
 fn until(line: &[u8], end: u8) -> usize
     ensures inside { result ≤ length line.now }
-    ensures before { take result line.now ≡ before end line.now }
+    ensures place { result ≡ position_or_len (λ c. c == end) line.now }
 {
     line.iter()
         .position(|byte| *byte == end)
@@ -97,7 +117,9 @@ fn until(line: &[u8], end: u8) -> usize
 }
 
 // The number that a word of digits stands for, with `-` before them where the type has a sign, if it is one of the type.
-pub(crate) fn number_of<N: FromStr<Err = ParseIntError>>(word: &[u8]) -> Result<N, Problem> {
+pub(crate) fn number_of<N: FromStr<Err = ParseIntError>>(word: &[u8]) -> Result<N, Problem>
+    ensures { IfOk result (λ n. Reads N.from_str_gives n word.now) }
+{
     // `parse` would read a plus sign
     if let [b'+', ..] = word {
         return Err(Problem::NoNumber);

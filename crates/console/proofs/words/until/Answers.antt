@@ -1,4 +1,4 @@
-use Rattle.std.proofs.Common.{◌∙◌, ap, rules, take, eqb}
+use Rattle.std.proofs.Common.{◌∙◌, ap, rules, eqb}
 use Rattle.std.proofs.lemmas.Iterator.{YieldsList-from_slice}
 use Rattle.std.proofs.lemmas.Iterator.Search.{position_from_yields_List}
 use borrow.Author.Tests.{tests}
@@ -7,8 +7,8 @@ use Rattle.std.specs.Option.{unwrap_or}
 use Rattle.console.proofs.Before.{first_or_all}
 use Rattle.console.proofs.words.until.Goals as goal
 
-pub returns-clause-before : goal.returns-clause-before
-returns-clause-before c =
+pub returns-clause-place : goal.returns-clause-place
+returns-clause-place c =
     let xs = c.args.line.now in
     let e = position_from_yields_List (λ x. eqb x c.args.end) _ _ _ c.position.ensures.ran (YieldsList-from_slice xs cc) (λ x b q k. search (rules, tests)) in
-    ap (λ k. take k xs) (c.unwrap_or.ensures ∙ ap (λ o. unwrap_or o (length xs)) e ∙ first_or_all (λ x. eqb x c.args.end) xs)
+    c.unwrap_or.ensures ∙ ap (λ o. unwrap_or o (length xs)) e ∙ first_or_all (λ x. eqb x c.args.end) xs
