@@ -1,5 +1,5 @@
 -- A line cut into words.
-use Rattle.std.proofs.Common.{◌≡◌, ◌≢◌, ℕ, suc, ◌+◌, ◌-◌, ◌<◌, Bool, true, false, List, [], ◌∷◌, length, take, drop, filter, get_or, eqb, nat_lt, refl, ne_eqb, lt-ltb, arith}
+use Rattle.std.proofs.Common.{◌≡◌, ◌≢◌, ℕ, suc, ◌+◌, ◌-◌, ◌<◌, Bool, true, false, List, [], ◌∷◌, length, take, drop, filter, get_or, eqb, nat_lt, refl, sym, ap, ◌∙◌, ne_eqb, lt-ltb, arith}
 use Rattle.std.specs.List.{slice_split, position_or_len}
 use Rattle.std.proofs.lemmas.List.{take_all}
 use Rattle.console.specs.Words.{words_in}
@@ -49,3 +49,7 @@ pub no-words : (line : List ℕ) → length line ≡ 0 → words_in line ≡ []
 unfolding words_in
 no-words [] e = refl
 no-words (c ∷ line) e = absurd (omega arith)
+
+-- a line that begins with no blank has a word
+pub some-word : (line : List ℕ) → 0 < length line → get_or line 0 0 ≢ 32 → words_in line ≢ []
+some-word line some at e = let n = ap length (sym (first-word line _ refl some at) ∙ e) in absurd (omega arith)

@@ -1,5 +1,5 @@
 -- What each command answers, and what it makes of what it is given.
-use Rattle.std.specs.Prelude.{◌≡◌, ℕ, ◌-◌, ◌<◌, ◌≤◌, Bool, List, length, take, ℤ, MatchOption, OnOk, OnErr, Result, T, slice_index}
+use Rattle.std.specs.Prelude.{◌≡◌, ℕ, ◌-◌, ◌<◌, ◌≤◌, Bool, List, length, take, MatchOption, OnOk, OnErr, Result, T, slice_index}
 use Rattle.archive.specs.Archives.{count_of, archive_fault, part_of, place_after}
 use Rattle.archive.specs.Denials.{denied}
 use Rattle.archive.specs.Faults.{archive_report, state_report}

@@ -1,7 +1,6 @@
 -- The text of an answer.
-use Rattle.std.specs.Prelude.{ℕ, ℤ, List, ◌++◌, codes, decimal, min}
+use Rattle.std.specs.Prelude.{ℕ, List, ◌++◌, codes, decimal, min}
 use Rattle.std.specs.Option.{option_map_or}
-use Rattle.std.specs.Fmt.{signed_decimal}
 use Rattle.archive.specs.Faults.{fault_text}
 use Rattle.cyclotomic.specs.Scalars.{triple_of}
 use Rattle.cyclotomic.specs.Texts.{refusal_text, residue_text, triple_text, words_text}

@@ -1,6 +1,6 @@
-ghost use Rattle.std.specs.Prelude.{◌≡◌, [], ◌∷◌, IfOk, IfErr, codes};
+ghost use Rattle.std.specs.Prelude.{[], ◌∷◌, IfOk, IfErr, codes};
 ghost use Rattle.console.specs.Spelling.{left, parts_of, ring_word, state_word, TellsUnknown};
-ghost use Rattle.console.specs.Words.{words_in};
+ghost use Rattle.console.specs.Words.{words_in, NamedBy};
 ghost use Rattle.console.specs.Parts.{Spells};
 ghost use Rattle.console.specs.declared.command.Operands.{Operands};
 
@@ -21,7 +21,7 @@ pub enum Name {
 impl TryFrom<&[u8]> for Name {
     type Error = Problem;
 
-    ghost try_from_gives = { λ word r. IfOk r (λ name. word.now ≡ state_word name) };
+    ghost try_from_gives = { λ word r. NamedBy state_word word.now r };
 
     fn try_from(word: &[u8]) -> Result<Name, Problem> {
         match word {
@@ -42,7 +42,7 @@ pub enum RingName {
 impl TryFrom<&[u8]> for RingName {
     type Error = Problem;
 
-    ghost try_from_gives = { λ word r. IfOk r (λ ring. word.now ≡ ring_word ring) };
+    ghost try_from_gives = { λ word r. NamedBy ring_word word.now r };
 
     fn try_from(word: &[u8]) -> Result<RingName, Problem> {
         match word {

@@ -1,5 +1,6 @@
-ghost use Rattle.std.specs.Prelude.{Some};
+ghost use Rattle.std.specs.Prelude.{◌≡◌, Some};
 ghost use Rattle.console.specs.Replies.{problem_text};
+ghost use Rattle.console.specs.declared.problem.Problem.TheVariants.{NoMemory};
 
 use std::alloc::{AllocError, AllocFailed};
 use std::fmt;
@@ -20,12 +21,16 @@ pub enum Problem {
 }
 
 impl From<AllocError> for Problem {
+    ghost from_gives = { λ _ p. p ≡ NoMemory };
+
     fn from(_: AllocError) -> Problem {
         Problem::NoMemory
     }
 }
 
 impl<T: Drop> From<AllocFailed<T>> for Problem {
+    ghost from_gives = { λ _ p. p ≡ NoMemory };
+
     fn from(_: AllocFailed<T>) -> Problem {
         Problem::NoMemory
     }

@@ -1,8 +1,10 @@
-ghost use Rattle.std.specs.Prelude.{◌≡◌, ◌≢◌, ◌≤◌, [], ◌∷◌, ◌==◌, length, IfOk, OnOk, OnErr, Ok, slice_index};
+ghost use Rattle.std.specs.Prelude.{◌≡◌, ◌≢◌, ◌≤◌, ◌⊎◌, [], ◌∷◌, ◌==◌, length, IfOk, IfErr, OnOk, OnErr, MatchResult, Ok, Err, slice_index};
 ghost use Rattle.std.specs.List.{position_or_len};
 ghost use Rattle.console.specs.Parts.{IsHex, Spells, scalar_parts};
-ghost use Rattle.console.specs.Words.{words_in, Next, Reads};
+ghost use Rattle.console.specs.Words.{words_in, Lacks, Next, Reads, Unreadable};
+ghost use Rattle.console.specs.declared.problem.Problem.TheVariants.{NoMemory};
 ghost use Rattle.cyclotomic.specs.Scalars.{triple_of};
+ghost use Rattle.listing.specs.Digits.{Paired};
 
 use crate::problem::Problem;
 use cyclotomic::scalar::Scalar;
@@ -47,16 +49,18 @@ impl<'a> Words<'a> {
 
     // The next word as a number in base ten.
     pub(crate) fn number<N: FromStr<Err = ParseIntError>>(&mut self) -> Result<N, Problem>
-        ensures { IfOk result (λ n. Next (λ w. Reads N.from_str_gives n w.now)
+        ensures read { IfOk result (λ n. Next (λ w. Reads N.from_str_gives n w.now)
             (words_in self.old.rest.now) (words_in self.new.rest.now)) }
+        ensures unread { OnErr result (Lacks (λ w. Unreadable N.from_str_gives w.now) (words_in self.old.rest.now)) }
     {
         number_of(self.word()?)
     }
 
     // The next word as the name of a state or of a ring.
     pub(crate) fn named<N: TryFrom<&'a [u8], Error = Problem>>(&mut self) -> Result<N, Problem>
-        ensures { IfOk result (λ n. Next (λ w. N.try_from_gives w (Ok n))
+        ensures named { IfOk result (λ n. Next (λ w. N.try_from_gives w (Ok n))
             (words_in self.old.rest.now) (words_in self.new.rest.now)) }
+        ensures unnamed { IfErr result (λ p. Lacks (λ w. N.try_from_gives w (Err p)) (words_in self.old.rest.now)) }
     {
         N::try_from(self.word()?)
     }
@@ -74,8 +78,9 @@ impl<'a> Words<'a> {
 
     // Puts the bytes that the next word stands for into `out`, in place of what it held.
     pub(crate) fn bytes(&mut self, out: &mut Vec<u8>) -> Result<(), Problem>
-        ensures { OnOk result (Next (λ w. IsHex out.new.items w.now)
+        ensures decoded { OnOk result (Next (λ w. IsHex out.new.items w.now)
             (words_in self.old.rest.now) (words_in self.new.rest.now)) }
+        ensures unpaired { IfErr result (λ p. (p ≡ NoMemory) ⊎ Lacks (λ w. Paired w.now → ⊥) (words_in self.old.rest.now)) }
     {
         let digits = Hex::new(self.word()?).ok_or(Problem::NoPairs)?;
         digits.decode(out)?;
@@ -84,7 +89,7 @@ impl<'a> Words<'a> {
 
     // Refuses a word that is left over.
     pub(crate) fn end(&self) -> Result<(), Problem>
-        ensures { OnOk result (words_in self.now.rest.now ≡ []) }
+        ensures { MatchResult result (λ _. words_in self.now.rest.now ≡ []) (λ _. words_in self.now.rest.now ≢ []) }
     {
         if self.rest.is_empty() {
             Ok(())
@@ -118,7 +123,8 @@ fn until(line: &[u8], end: u8) -> usize
 
 // The number that a word of digits stands for, with `-` before them where the type has a sign, if it is one of the type.
 pub(crate) fn number_of<N: FromStr<Err = ParseIntError>>(word: &[u8]) -> Result<N, Problem>
-    ensures { IfOk result (λ n. Reads N.from_str_gives n word.now) }
+    ensures read { IfOk result (λ n. Reads N.from_str_gives n word.now) }
+    ensures unread { OnErr result (Unreadable N.from_str_gives word.now) }
 {
     // `parse` would read a plus sign
     if let [b'+', ..] = word {
