@@ -233,7 +233,8 @@ def is_of(name, bug, crate):
 def impl_name(impl):
     """The check's name of an impl: `From<Option<Scalar>> for Answer` is AnswerFromOptionScalar, and type parameters are left out."""
     trait, owner = impl.split(" for ")
-    words = ["Unit" if it == "()" else it for it in re.findall(r"\w+|\(\)", trait)]
+    signs = {"()": "Unit", "&": "Ref", "[": "Slice"}
+    words = [signs.get(it, it[0].upper() + it[1:]) for it in re.findall(r"\w+|\(\)|&|\[", trait)]
     return owner.split("<")[0] + "".join(it for it in words if not re.fullmatch("[A-Z]", it))
 
 
