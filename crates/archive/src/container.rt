@@ -60,7 +60,7 @@ fn sheet_end(archive: &[u8], place: usize, sheet: u64) -> Result<usize, ArchiveF
     ensures near { IfOk result (λ q. q ≤ place + 4096) }
     ensures inside { IfOk result (λ q. q ≤ 8 * length archive.now) }
 {
-    state_end(archive, place).map_err(|fault| ArchiveFault::State { sheet, fault })
+    state_end(archive, place).map_err(|fault| ArchiveFault::from(fault).numbered(sheet))
 }
 
 // The place after m states that begin at a place, behind the first `done`.

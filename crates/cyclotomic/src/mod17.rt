@@ -5,7 +5,7 @@ ghost use Rattle.cyclotomic.specs.Modular.{Below as Residue, seventeen, low};
 ghost use Rattle.cyclotomic.specs.ModularLaws.{seventeen_laws};
 ghost use Rattle.cyclotomic.specs.Texts.{residue_text};
 
-use crate::ring::{Column, Ring};
+use crate::ring::{Column, Printed, Ring};
 use std::fmt;
 
 // A number modulo 17, where 2 is an eighth root of one.
@@ -69,8 +69,6 @@ impl Column for Mod17 {
 
     ghost digit_of = { λ x i. hex_at 2 x.residue i };
 
-    ghost printed = { λ x. refl };
-
     const DIGITS: usize = 2;
 
     fn digit(self, place: usize) -> u8 {
@@ -80,6 +78,10 @@ impl Column for Mod17 {
             _ => 0,
         }
     }
+}
+
+impl Printed for Mod17 {
+    ghost printed = { λ x. refl };
 }
 
 impl fmt::Display for Mod17 {

@@ -6,7 +6,7 @@ ghost use Rattle.cyclotomic.specs.Modular.{Quad, quads as modular, low};
 ghost use Rattle.cyclotomic.specs.ModularLaws.{quad_laws};
 ghost use Rattle.cyclotomic.specs.Texts.{words_text};
 
-use crate::ring::{Column, Ring};
+use crate::ring::{Column, Printed, Ring};
 use std::fmt;
 use std::num::Wrapping;
 
@@ -119,13 +119,15 @@ impl Column for Cyclotomic64 {
 
     ghost digit_of = { λ x i. hex_at 16 (word_at x.a0.0 x.a1.0 x.a2.0 x.a3.0 (i / 16)) (i % 16) };
 
-    ghost printed = { λ x. refl };
-
     const DIGITS: usize = 64;
 
     fn digit(self, place: usize) -> u8 {
         ((self.word(place / 16) >> (60 - 4 * (place % 16))) % 16) as u8
     }
+}
+
+impl Printed for Cyclotomic64 {
+    ghost printed = { λ x. refl };
 }
 
 impl fmt::Display for Cyclotomic64 {

@@ -41,7 +41,7 @@ pub trait Ring: Copy {
 }
 
 // A ring that is printed in hexadecimal digits, of a fixed number.
-pub trait Column: Ring + fmt::Display {
+pub trait Column: Ring {
     ghost DIGITS: { ℕ };
 
     ghost digit_of: { Self → ℕ → ℕ };
@@ -53,7 +53,10 @@ pub trait Column: Ring + fmt::Display {
     fn digit(self, place: usize) -> u8
         ensures value { result ≡ digit_of self place }
         ensures small { result < 16 };
+}
 
+// Such a ring whose values print themselves.
+pub trait Printed: Column + fmt::Display {
     // A value is printed as its digits.
-    ghost printed: { (x : Self) → Self.output x ≡ Some (glyphs (digit_of x) 0 DIGITS) };
+    ghost printed: { (x : Self) → Self.output x ≡ Some (glyphs (Self.digit_of x) 0 Self.DIGITS) };
 }

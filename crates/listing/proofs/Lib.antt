@@ -1,3 +1,4 @@
 mod Binary
 mod Commas
+mod Glyphs
 mod Numbered

@@ -11,3 +11,4 @@ pub mod pair;
 mod pairs;
 pub mod sheets;
 pub mod space;
+pub mod text;

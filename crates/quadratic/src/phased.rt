@@ -16,7 +16,7 @@ pub struct PhasedSpace {
 }
 
 // By what a phase turns at a string: 2 * quarters, and 4 times the parity with the mask.
-#[derive(Clone, Copy)]
+#[derive(Clone, Copy, Debug, PartialEq, Eq)]
 pub struct Turn {
     pub quarters: u8,
     pub mask: u64,

@@ -1,8 +1,12 @@
 // Worked examples, run.
 use archive::codec::{read, write};
 use archive::fault::Fault;
+use cyclotomic::mod17::Mod17;
+use cyclotomic::quads::Cyclotomic64;
 use cyclotomic::refusal::Refusal;
+use cyclotomic::ring::Ring;
 use listing::sheets::{Document, Listing};
+use listing::text::ColumnText;
 use stabilizer::overlap::overlap;
 use stabilizer::state::StabilizerState;
 use std::io;
@@ -118,5 +122,17 @@ fn lists_two_states(rt: HostRuntime) -> io::Result<()> {
     text.clear();
     Listing::write(rt.alloc(), &mut text, &[2, 0x04, 0x10, 0x00, 0x88])?;
     assert!(rt; text.as_slice() == "fault 1 1 2 1 40\n".as_bytes());
+    Ok(())
+}
+
+#[test]
+fn prints_columns_by_their_digits(rt: HostRuntime) -> io::Result<()> {
+    let heap = rt.alloc();
+    let residue = format!(in heap; "{}", ColumnText(Mod17::omega().negative()))?;
+    assert!(rt; residue.as_str() == "0f");
+    let quad = format!(in heap; "{}", ColumnText(Cyclotomic64::omega()))?;
+    assert!(rt;
+        quad.as_str() == "0000000000000000000000000000000100000000000000000000000000000000"
+    );
     Ok(())
 }

@@ -1,7 +1,5 @@
-use Rattle.std.proofs.Common.{◌≡◌, ℕ, ◌<◌, List, [], ◌∷◌, ◌++◌, false, Some, length, take, get_or, refl, sym, ap, ◌∙◌, arith, append-nil}
-use Rattle.std.specs.Fmt.{styled_digits_output}
+use Rattle.std.proofs.Common.{◌≡◌, ℕ, ◌<◌, List, [], ◌∷◌, ◌++◌, length, take, get_or, refl, sym, ap, ◌∙◌, arith, append-nil}
 use Rattle.std.proofs.Output.{has_written_append, has_written_of_eq}
-use Rattle.std.proofs.lemmas.Fmt.{hex_byte}
 use Rattle.std.proofs.lemmas.List.{take_more}
 use Rattle.listing.specs.Digits.{byte_text, pairs_text}
 use Rattle.listing.proofs.hex.HexBytesDisplay.fmt.Goals as goal
@@ -18,8 +16,6 @@ loop-byte-preserved g c = λ plain.
     let b = get_or bytes i 0 in
     let within : i < length bytes = omega arith in
     let text = ap pairs_text (take_more bytes i 0 within) ∙ pairs-more (take i bytes) b in
-    let shown : styled_digits_output c.in_radix.result c.laid_out.result ≡ Some (byte_text b) =
-    rw (c.laid_out.ensures, c.in_radix.ensures) (ap Some (hex_byte false b (omega arith))) in
     let so_far = c.loop-byte.invariant plain in
     has_written_of_eq _ _ _ _ _ (sym text)
-    (has_written_append _ _ _ _ _ _ so_far ((rw shown at c.in_ok-write.ensures.writes) so_far.plain refl))
+    (has_written_append _ _ _ _ _ _ so_far (c.in_ok-write_byte.ensures so_far.plain refl))
